@@ -8,8 +8,8 @@ ghost use Rattle.rc_asked.specs.Flatness.{is_location, is_top, is_at_hand};
 
 use rc_ast::{CardExpr, CollExpr, IntExpr, Loc, Num};
 
-/// A number that is read off the table with no list: one that is written out, one that the game keeps, how many cards a location has,
-/// or what its top card is worth by a point map.
+/// A number that is read off the table with no list: one that is written out, one that the game keeps, how many cards a
+/// location has, or what its top card is worth by a point map.
 #[derive(Clone, Copy)]
 pub enum Amount {
     Literal(i64),

@@ -34,7 +34,8 @@ impl Model for Asked {
 
     ghost view = { λ a. test_seen a.test };
 
-    ghost invariant = { λ a. IsFlatForm (test_seen a.test) a.flat × (is_some a.flat ≡ has_flat_form (test_seen a.test)) };
+    ghost invariant = { λ a. IsFlatForm (test_seen a.test) a.flat
+        × (is_some a.flat ≡ has_flat_form (test_seen a.test)) };
 }
 
 impl Asked {

@@ -48,7 +48,8 @@ fn compare_of(how: Comparison, a: &IntExpr, b: &IntExpr) -> Option<Atom>
 }
 
 fn same_of(a: &CardExpr, name: u16, b: &CardExpr, other_name: u16) -> Option<Atom>
-    ensures same { IfSome result (λ atom. atom_meant atom ≡ eq_attr (card_seen a.now) name (card_seen b.now) other_name) }
+    ensures same { IfSome result (λ atom. atom_meant atom
+        ≡ eq_attr (card_seen a.now) name (card_seen b.now) other_name) }
     ensures found { is_some result ≡ is_top (card_seen a.now) && is_top (card_seen b.now) }
 {
     match topped_by(a) {

@@ -9,8 +9,9 @@ ghost use Rattle.rc_asked.specs.Flatness.{are_players, are_two_comparisons, coun
 use crate::atoms::{Atom, atom_of};
 use rc_ast::{CollExpr, Domain, IntExpr, Loc, Test, Who};
 
-/// A test in flat form: one comparison, two that are both to hold, or whether each player has so many cards in a location of his,
-/// outside all binders. Beside that stand the number of its variable's word and the offset of the location's form.
+/// A test in flat form: one comparison, two that are both to hold, or whether each player has so many cards in a
+/// location of his, outside all binders. Beside that stand the number of its variable's word and the offset of the
+/// location's form.
 #[derive(Clone, Copy)]
 pub enum Flat {
     One(Atom),
@@ -41,7 +42,8 @@ fn both_of(tests: &Vec<Test>) -> Option<Flat>
 
 // So many in a location of the player that the outermost variable stands for.
 fn each_has(bound: u32, loc: &Loc, count: i64) -> Option<Flat>
-    ensures same { IfSome result (λ flat. flat_meant flat ≡ all_of each_player bound (eq_int (size_of (cards_in (loc_seen loc.now))) (literal count))) }
+    ensures same { IfSome result (λ flat. flat_meant flat
+        ≡ all_of each_player bound (eq_int (size_of (cards_in (loc_seen loc.now))) (literal count))) }
     ensures found { is_some result ≡ is_outermost (loc_seen loc.now).who }
 {
     match loc.who {
@@ -57,7 +59,8 @@ fn each_has(bound: u32, loc: &Loc, count: i64) -> Option<Flat>
 
 // As many as a number, if it is a literal.
 fn each_has_literal(bound: u32, loc: &Loc, expr: &IntExpr) -> Option<Flat>
-    ensures same { IfSome result (λ flat. flat_meant flat ≡ all_of each_player bound (eq_int (size_of (cards_in (loc_seen loc.now))) (int_seen expr.now))) }
+    ensures same { IfSome result (λ flat. flat_meant flat
+        ≡ all_of each_player bound (eq_int (size_of (cards_in (loc_seen loc.now))) (int_seen expr.now))) }
     ensures found { is_some result ≡ is_outermost (loc_seen loc.now).who && is_written_out (int_seen expr.now) }
 {
     match expr {
@@ -67,7 +70,8 @@ fn each_has_literal(bound: u32, loc: &Loc, expr: &IntExpr) -> Option<Flat>
 }
 
 fn each_size(bound: u32, cards: &CollExpr, expr: &IntExpr) -> Option<Flat>
-    ensures same { IfSome result (λ flat. flat_meant flat ≡ all_of each_player bound (eq_int (size_of (coll_seen cards.now)) (int_seen expr.now))) }
+    ensures same { IfSome result (λ flat. flat_meant flat
+        ≡ all_of each_player bound (eq_int (size_of (coll_seen cards.now)) (int_seen expr.now))) }
     ensures found { is_some result ≡ is_own (coll_seen cards.now) && is_written_out (int_seen expr.now) }
 {
     match cards {
@@ -77,7 +81,8 @@ fn each_size(bound: u32, cards: &CollExpr, expr: &IntExpr) -> Option<Flat>
 }
 
 fn each_equal(bound: u32, a: &IntExpr, b: &IntExpr) -> Option<Flat>
-    ensures same { IfSome result (λ flat. flat_meant flat ≡ all_of each_player bound (eq_int (int_seen a.now) (int_seen b.now))) }
+    ensures same { IfSome result (λ flat. flat_meant flat
+        ≡ all_of each_player bound (eq_int (int_seen a.now) (int_seen b.now))) }
     ensures found { is_some result ≡ is_own_size (int_seen a.now) && is_written_out (int_seen b.now) }
 {
     match a {
@@ -98,7 +103,8 @@ fn of_each(bound: u32, test: &Test) -> Option<Flat>
 
 // A test of all members of a domain in flat form, if they are the players and it has one.
 fn all_in(domain: &Domain, bound: u32, test: &Test) -> Option<Flat>
-    ensures same { IfSome result (λ flat. flat_meant flat ≡ all_of (domain_seen domain.now) bound (test_seen test.now)) }
+    ensures same { IfSome result (λ flat. flat_meant flat
+        ≡ all_of (domain_seen domain.now) bound (test_seen test.now)) }
     ensures found { is_some result ≡ are_players (domain_seen domain.now) && counts_own (test_seen test.now) }
 {
     match domain {

@@ -21,15 +21,16 @@ pub enum Sense {
     Not,
 }
 
-/// What is wished of a card: that it has a value for an attribute, or for one the value that the top card of a location has for one.
+/// What is wished of a card: that it has a value for an attribute, or for one the value that the top card of a location
+/// has for one.
 #[derive(Clone, Copy)]
 pub enum Wish {
     Value { name: u16, value: u16 },
     Against { name: u16, against: Loc, other: u16 },
 }
 
-/// A question that is answered with no walk over a tree, where no variable owns any of its locations: a comparison; whether the
-/// innermost variable's card is as it is wished; or whether one of the cards of a location is.
+/// A question that is answered with no walk over a tree, where no variable owns any of its locations: a comparison;
+/// whether the innermost variable's card is as it is wished; or whether one of the cards of a location is.
 #[derive(Clone, Copy)]
 pub enum Question {
     Known(Atom),
@@ -56,7 +57,8 @@ impl Default for Part {
 /// The parts of a guard, few of them.
 pub type FewParts = ArrayVec<Part, 4>;
 
-/// A guard of the cards of a location: whether one of its parts is enough, and the parts. No variable owns any of its locations.
+/// A guard of the cards of a location: whether one of its parts is enough, and the parts. No variable owns any of its
+/// locations.
 #[derive(Drop)]
 pub struct Guard {
     pub loc: Loc,
@@ -78,7 +80,8 @@ fn is_fixed(loc: &Loc) -> bool
     }
 }
 
-// Whether no variable owns what a number is read off. A number that the game keeps isn't looked at: few guards ask for one.
+// Whether no variable owns what a number is read off. A number that the game keeps isn't looked at: few guards ask for
+// one.
 fn is_fixed_amount(amount: &Amount) -> bool
     ensures fixed { result ≡ true → IsFixedAmount amount.now }
     ensures told { result ≡ is_fixed_number (amount_meant amount.now) }
@@ -233,7 +236,8 @@ fn some_of(domain: &Domain, bound: u32, inner: &Test) -> Option<Question>
 
 fn some_in(among: Loc, bound: u32, inner: &Test) -> Option<Question>
     requires { IsFixedLoc (loc_seen among) }
-    ensures is { IfSome result (IsQuestionOf (any_of (each_card (cards_in (loc_seen among))) bound (test_seen inner.now))) }
+    ensures is { IfSome result (IsQuestionOf
+        (any_of (each_card (cards_in (loc_seen among))) bound (test_seen inner.now))) }
     ensures found { is_some result ≡ is_wish 1 (test_seen inner.now) }
 {
     match wish_of(inner, 1) {
@@ -295,7 +299,8 @@ fn parts_of(tests: &Vec<Test>) -> Option<FewParts>
 fn joined(loc: Loc, any: bool, tests: &Vec<Test>) -> Option<Guard>
     requires { IsFixedLoc (loc_seen loc) }
     ensures place { IfSome result (λ guard. guard.loc ≡ loc) }
-    ensures same { IfSome result (λ guard. guard_meant guard ≡ (if any then or_of (tests_seen tests.now.items) else and_of (tests_seen tests.now.items))) }
+    ensures same { IfSome result (λ guard. guard_meant guard
+        ≡ (if any then or_of (tests_seen tests.now.items) else and_of (tests_seen tests.now.items))) }
     ensures fixed { IfSome result IsFixedGuard }
     ensures found { is_some result ≡ are_few_parts (tests_seen tests.now.items) }
 {
@@ -322,7 +327,8 @@ fn guard_by(loc: Loc, test: &Test) -> Option<Guard>
 
 fn guard_in(loc: Loc, alt: &Alt) -> Option<Guard>
     requires { IsFixedLoc (loc_seen loc) }
-    ensures is { IfSome result (λ guard. (bound : ℕ) → IsGuardOf (any_alt (each_card (cards_in (loc_seen loc))) bound (alt_seen alt.now)) guard) }
+    ensures is { IfSome result (λ guard. (bound : ℕ)
+        → IsGuardOf (any_alt (each_card (cards_in (loc_seen loc))) bound (alt_seen alt.now)) guard) }
     ensures found { is_some result ≡ is_guarded (alt_seen alt.now) }
 {
     match alt {
@@ -332,7 +338,8 @@ fn guard_in(loc: Loc, alt: &Alt) -> Option<Guard>
 }
 
 fn guard_among(domain: &Domain, alt: &Alt) -> Option<Guard>
-    ensures is { IfSome result (λ guard. (bound : ℕ) → IsGuardOf (any_alt (domain_seen domain.now) bound (alt_seen alt.now)) guard) }
+    ensures is { IfSome result (λ guard. (bound : ℕ)
+        → IsGuardOf (any_alt (domain_seen domain.now) bound (alt_seen alt.now)) guard) }
     ensures found { is_some result ≡ is_fixed_domain (domain_seen domain.now) && is_guarded (alt_seen alt.now) }
 {
     match fixed_domain(domain) {

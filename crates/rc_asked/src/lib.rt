@@ -1,6 +1,6 @@
-//! Tests in flat form. Most tests of a game compare numbers, or the values of two cards, which are read off the table with no list
-//! and with no other test inside. Such a test is known once, when a sheet is made code, and asked with no walk over its tree. So is
-//! the guard of an alternative that offers the cards of one location.
+//! Tests in flat form. Most tests of a game compare numbers, or the values of two cards, which are read off the table
+//! with no list and with no other test inside. Such a test is known once, when a sheet is made code, and asked with no
+//! walk over its tree. So is the guard of an alternative that offers the cards of one location.
 #![tactic(auto)]
 
 mod amounts;

@@ -34,7 +34,8 @@ impl Model for Offer {
 
     ghost view = { λ o. alt_seen o.alt };
 
-    ghost invariant = { λ o. IfSome o.guard (IsGuardOf (alt_seen o.alt)) × (is_some o.guard ≡ has_guard (alt_seen o.alt)) };
+    ghost invariant = { λ o. IfSome o.guard (IsGuardOf (alt_seen o.alt))
+        × (is_some o.guard ≡ has_guard (alt_seen o.alt)) };
 }
 
 impl Offer {

@@ -5,8 +5,8 @@ ghost use Rattle.rc_asked.specs.Flatness.{has_flat_form};
 ghost use Rattle.rc_asked.specs.GuardParts.{has_guard};
 ghost use Rattle.rc_asked.specs.Tricks.{hands_are_empty, all_have_played, nobody_has_led, is_best_so_far, may_be_played, plays_a_card};
 
-/// The ends of both stages of the trick game, and the tests of its effects, have a flat form, and its choice has a guard in parts. The
-/// function does nothing: its contract is proved by computing.
+/// The ends of both stages of the trick game, and the tests of its effects, have a flat form, and its choice has a
+/// guard in parts. The function does nothing: its contract is proved by computing.
 pub fn trick_tests_have_flat_forms()
     ensures game { (at : ℕ) → has_flat_form (hands_are_empty at) ≡ true }
     ensures trick { (at : ℕ) → has_flat_form (all_have_played at) ≡ true }

@@ -39,8 +39,8 @@ pub enum CardExpr {
     Min(Box<CollExpr>, u16),
 }
 
-/// A list of cards. The number beside a binder is that of its variable's word. `Known` are those of a location that the current player
-/// sees.
+/// A list of cards. The number beside a binder is that of its variable's word. `Known` are those of a location that the
+/// current player sees.
 #[cycle(expressions)]
 pub enum CollExpr {
     Var(u8),

@@ -25,8 +25,9 @@ use std::marker::Model;
 use std::num::NonZeroUsize;
 use std::sync::ledger::Share;
 
-/// Entries that were found before, as many as there is room for, and the journal of all calls. It serves one about, which its name
-/// shows, as it shows how many entries there may be. Contracts see the journal, of which the entries are the replay.
+/// Entries that were found before, as many as there is room for, and the journal of all calls. It serves one about,
+/// which its name shows, as it shows how many entries there may be. Contracts see the journal, of which the entries are
+/// the replay.
 #[derive(Drop)]
 pub struct Book<N: BookNaming> {
     cache: Cache,
@@ -47,12 +48,14 @@ impl<N: BookNaming> Model for Book<N> {
 
     ghost view = { λ b. map line_seen b.journal.items };
 
-    ghost invariant = { λ b. (1 ≤ N.lanes) × IsKept N.about N.capacity b.cache (map line_seen b.journal.items) b.sums.looks.total b.sums.hits.total b.sums.keeps.total };
+    ghost invariant = { λ b. (1 ≤ N.lanes)
+        × IsKept N.about N.capacity b.cache
+        (map line_seen b.journal.items) b.sums.looks.total b.sums.hits.total b.sums.keeps.total };
 }
 
 impl<N: BookNaming> Book<N> {
-    /// An empty book that serves an about, and its lanes, by a name that no book has yet. The capacity is 1 to 65,536, and there are 1
-    /// to 64 lanes. Memory may run out.
+    /// An empty book that serves an about, and its lanes, by a name that no book has yet. The capacity is 1 to 65,536,
+    /// and there are 1 to 64 lanes. Memory may run out.
     pub fn new(
         alloc: Global,
         fresh: Fresh,
@@ -84,14 +87,17 @@ impl<N: BookNaming> Book<N> {
         }
     }
 
-    /// Looks an ask up, and brings it to the front where it is there. Where memory runs out, the book, its journal and the lane are as
-    /// before.
+    /// Looks an ask up, and brings it to the front where it is there. Where memory runs out, the book, its journal and
+    /// the lane are as before.
     pub fn look(&mut self, alloc: Global, lane: &mut Lane<N>, key: &Key) -> Result<Reply, Memory>
         requires served { (key_seen key.now).about ≡ N.about }
         ensures hit { IfOk result (λ reply. is_hit_of reply ≡ stands (key_seen key.now) (keys_in N.capacity self.old)) }
-        ensures totals { IfOk result (λ reply. IfHit reply (λ totals. totals ≡ tally_of (key_seen key.now).about (key_seen key.now).ask)) }
-        ensures journal { IfOk result (λ reply. self.new ≡ with_line self.old lane.old.number (looked (key_seen key.now) (is_hit_of reply))) }
-        ensures lane { IfOk result (λ reply. lane.new ≡ counted lane.old (looked (key_seen key.now) (is_hit_of reply))) }
+        ensures totals { IfOk result
+            (λ reply. IfHit reply (λ totals. totals ≡ tally_of (key_seen key.now).about (key_seen key.now).ask)) }
+        ensures journal { IfOk result
+            (λ reply. self.new ≡ with_line self.old lane.old.number (looked (key_seen key.now) (is_hit_of reply))) }
+        ensures lane { IfOk result (λ reply. lane.new
+            ≡ counted lane.old (looked (key_seen key.now) (is_hit_of reply))) }
         ensures lacking { OnErr result ((self.new ≡ self.old) × (lane.new ≡ lane.old)) }
     {
         let known = copied(key)?;
@@ -110,8 +116,8 @@ impl<N: BookNaming> Book<N> {
         Ok(reply)
     }
 
-    /// Puts an entry in front, in the place of one of the same ask, and drops the last one of a full book. Where memory runs out, the
-    /// book, its journal and the lane are as before.
+    /// Puts an entry in front, in the place of one of the same ask, and drops the last one of a full book. Where memory
+    /// runs out, the book, its journal and the lane are as before.
     pub fn keep(&mut self, lane: &mut Lane<N>, entry: Entry) -> Result<(), Memory>
         requires served { entry.about ≡ N.about }
         ensures journal { OnOk result (self.new ≡ with_line self.old lane.old.number (kept entry)) }

@@ -19,7 +19,8 @@ pub(crate) type Cache = LruCache<HashedAsk, Entry>;
 
 /// What is known of an ask. Memory may run out.
 pub(crate) fn find(alloc: Global, cache: &Cache, mark: &HashedAsk) -> Result<Reply, Memory>
-    ensures hit { IfOk result (λ reply. (about : About) → is_hit reply ≡ stands (key_by about mark.now) (map (key_in about) cache.now.entries)) }
+    ensures hit { IfOk result (λ reply. (about : About)
+        → is_hit reply ≡ stands (key_by about mark.now) (map (key_in about) cache.now.entries)) }
     ensures totals { IfOk result (λ reply. (about : About) → AllByRecursion (IsOwn about) cache.now.entries
         → IfHit reply (λ totals. totals ≡ tally_of about mark.now)) }
 {
@@ -37,17 +38,20 @@ pub(crate) fn bring(cache: &mut Cache, mark: &HashedAsk)
     ensures keys { (about : About) → map (key_in about) cache.new.entries
         ≡ after cache.old.cap (map (key_in about) cache.old.entries)
         (looked (key_by about mark.now) (stands (key_by about mark.now) (map (key_in about) cache.old.entries))) }
-    ensures own { (about : About) → AllByRecursion (IsOwn about) cache.old.entries → AllByRecursion (IsOwn about) cache.new.entries }
+    ensures own { (about : About) → AllByRecursion (IsOwn about) cache.old.entries
+        → AllByRecursion (IsOwn about) cache.new.entries }
     ensures capacity { cache.new.cap ≡ cache.old.cap }
 {
     cache.promote(mark);
 }
 
-/// Puts an entry in front, in the place of one of the same ask, and drops the last one where there is no room. Memory may run out.
+/// Puts an entry in front, in the place of one of the same ask, and drops the last one where there is no room. Memory
+/// may run out.
 pub(crate) fn put(cache: &mut Cache, mark: HashedAsk, entry: Entry) -> Result<(), Memory>
     ensures keys { OnOk result ((about : About) → map (key_in about) cache.new.entries
         ≡ after cache.old.cap (map (key_in about) cache.old.entries) (kept (key_by about mark))) }
-    ensures own { OnOk result ((about : About) → AllByRecursion (IsOwn about) cache.old.entries → IsOwn about (mark, entry)
+    ensures own { OnOk result ((about : About) → AllByRecursion (IsOwn about) cache.old.entries
+        → IsOwn about (mark, entry)
         → AllByRecursion (IsOwn about) cache.new.entries) }
     ensures capacity { cache.new.cap ≡ cache.old.cap }
     ensures lacking { OnErr result (cache.new ≡ cache.old) }

@@ -8,8 +8,8 @@ use crate::lanes::{Lane, Together};
 use crate::laws::without_a_keep_none_hits;
 use crate::naming::BookNaming;
 
-/// What a book was when it was closed: how many entries it held at most, how many lanes it had, and how many calls of each kind these
-/// made together. Only a book that is closed gives them.
+/// What a book was when it was closed: how many entries it held at most, how many lanes it had, and how many calls of
+/// each kind these made together. Only a book that is closed gives them.
 #[derive(Drop)]
 pub struct Totals {
     capacity: usize,

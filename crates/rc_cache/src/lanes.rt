@@ -77,7 +77,13 @@ impl<N: BookNaming> Sums<N> {
         ensures looks { self.new.looks.total ≡ self.old.looks.total + 1 }
         ensures hits { self.new.hits.total ≡ self.old.hits.total + one_if hit }
         ensures keeps { self.new.keeps.total ≡ self.old.keeps.total }
-        ensures lane { lane.new ≡ record { number = lane.old.number; looks = lane.old.looks + 1; hits = lane.old.hits + one_if hit; keeps = lane.old.keeps } }
+        ensures lane { lane.new ≡ record {
+          number = lane.old.number;
+          looks = lane.old.looks + 1;
+          hits = lane.old.hits
+              + one_if hit;
+          keeps = lane.old.keeps;
+        } }
     {
         // only the contract speaks of it
         let _made = made;
@@ -97,7 +103,14 @@ impl<N: BookNaming> Sums<N> {
         ensures looks { self.new.looks.total ≡ self.old.looks.total }
         ensures hits { self.new.hits.total ≡ self.old.hits.total }
         ensures keeps { self.new.keeps.total ≡ self.old.keeps.total + 1 }
-        ensures lane { lane.new ≡ record { number = lane.old.number; looks = lane.old.looks; hits = lane.old.hits; keeps = lane.old.keeps + 1 } }
+        ensures lane { lane.new
+            ≡ record {
+              number = lane.old.number;
+              looks = lane.old.looks;
+              hits = lane.old.hits;
+              keeps = lane.old.keeps
+                  + 1;
+            } }
     {
         // only the contract speaks of it
         let _made = made;
@@ -157,8 +170,15 @@ impl<N: BookNaming> Together<N> {
     /// One lane more.
     pub(crate) fn add(&mut self, sums: &mut Sums<N>, lane: Lane<N>)
         requires { (sums.old.looks.total < 2 ^ 64) × (sums.old.hits.total < 2 ^ 64) × (sums.old.keeps.total < 2 ^ 64) }
-        ensures joined { self.new ≡ record { lanes = self.old.lanes + 1; looks = self.old.looks + lane.looks; hits = self.old.hits + lane.hits; keeps = self.old.keeps + lane.keeps } }
-        ensures sums { (sums.new.looks.total ≡ sums.old.looks.total) × (sums.new.hits.total ≡ sums.old.hits.total) × (sums.new.keeps.total ≡ sums.old.keeps.total) }
+        ensures joined { self.new ≡ record {
+          lanes = self.old.lanes + 1;
+          looks = self.old.looks
+              + lane.looks;
+          hits = self.old.hits + lane.hits;
+          keeps = self.old.keeps + lane.keeps;
+        } }
+        ensures sums { (sums.new.looks.total ≡ sums.old.looks.total) × (sums.new.hits.total ≡ sums.old.hits.total)
+            × (sums.new.keeps.total ≡ sums.old.keeps.total) }
     {
         let Lane {
             number: _,

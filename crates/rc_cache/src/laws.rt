@@ -1,4 +1,5 @@
-//! Laws of replays and of what they hit. No function here does anything: a crate above gets a law by calling its function.
+//! Laws of replays and of what they hit. No function here does anything: a crate above gets a law by calling its
+//! function.
 ghost use Rattle.rc_cache.specs.Laws.{SameKeysAreEqual, NoKeyTwice, ReplayFits, NoHitUnkept, SomeLookMisses, DifferentKeys, MissesEachOnce, OneWorkerHits, OneWorkerLacks};
 
 /// Of one about, the keys that are told to be the same are equal, and no others.
@@ -41,7 +42,8 @@ pub fn one_worker_has_the_hits_of_its_looks()
     ensures { OneWorkerHits }
 {}
 
-/// Where one worker alone asks keys of a new book until memory runs out, the steps are no more than those of these looks.
+/// Where one worker alone asks keys of a new book until memory runs out, the steps are no more than those of these
+/// looks.
 pub fn one_worker_lacking_memory_takes_no_more_steps()
     ensures { OneWorkerLacks }
 {}

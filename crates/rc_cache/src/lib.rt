@@ -1,5 +1,5 @@
-//! A book of totals that were found before: a bounded list of entries, the journal of its calls, and the lanes by which workers call
-//! it, one alone or many over one lock.
+//! A book of totals that were found before: a bounded list of entries, the journal of its calls, and the lanes by which
+//! workers call it, one alone or many over one lock.
 #![tactic(auto)]
 
 mod book;

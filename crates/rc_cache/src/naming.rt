@@ -6,8 +6,8 @@ ghost use Rattle.rc_cache.specs.Naming.{no_about};
 use std::marker::{Brand, PhantomData};
 use std::sync::ledger::{Blank, Ledger};
 
-/// Which book it is: the about that it serves, how many entries it holds at most, how many lanes it has, and the names of the ledgers
-/// of its looks, hits and keeps. Each call of a program picks it.
+/// Which book it is: the about that it serves, how many entries it holds at most, how many lanes it has, and the names
+/// of the ledgers of its looks, hits and keeps. Each call of a program picks it.
 pub trait BookNaming {
     ghost about: { About };
 

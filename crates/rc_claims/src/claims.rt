@@ -11,8 +11,8 @@ use rc_deck::Memory;
 use std::alloc::{AllocError, Global};
 use std::marker::Model;
 
-/// Numbers from 0 that are claimed one by one. Who claims waits for nobody. Contracts see the word that they are drawn from, how
-/// many of them count, and how many passes there are.
+/// Numbers from 0 that are claimed one by one. Who claims waits for nobody. Contracts see the word that they are drawn
+/// from, how many of them count, and how many passes there are.
 #[derive(Drop)]
 pub struct Claims {
     table: Table<(), PassView, Limits, EachOnce, Global>,
@@ -36,10 +36,12 @@ impl Model for Claims {
     } };
 
     ghost invariant = { λ c. (c.table.shared.table_id.words ≡ 1) × (c.table.shared.table_id.slots ≡ 0)
-        × (c.count ≡ c.table.shared.key.count) × (c.table.shared.key.count ≤ most_matches) × (c.table.shared.key.passes ≤ most_workers) };
+        × (c.count ≡ c.table.shared.key.count) × (c.table.shared.key.count ≤ most_matches)
+        × (c.table.shared.key.passes ≤ most_workers) };
 }
 
-/// The right to claim. Contracts see the word that it draws from, its holders, one at least, and the numbers that it has claimed.
+/// The right to claim. Contracts see the word that it draws from, its holders, one at least, and the numbers that it
+/// has claimed.
 #[derive(Drop)]
 pub struct Pass {
     seat: Seat<(), PassView>,
@@ -114,8 +116,8 @@ impl Claims {
         Pass { seat }
     }
 
-    /// Claims the next number. None comes where it isn't one of those that count; the pass then has it all the same, and claims no
-    /// more. A number is never smaller than how many the pass had claimed, so claiming until None ends.
+    /// Claims the next number. None comes where it isn't one of those that count; the pass then has it all the same,
+    /// and claims no more. A number is never smaller than how many the pass had claimed, so claiming until None ends.
     pub fn claim(&self, pass: &mut Pass) -> Option<u32>
         requires own { pass.old.table ≡ self.now.table }
         requires counted { All (λ n. n < self.now.count) pass.old.numbers }

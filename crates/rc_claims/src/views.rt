@@ -1,5 +1,5 @@
-//! What passes know of the word that they draw from, the rule of that word, and what the steps on it tell. All of it exists in
-//! proofs alone.
+//! What passes know of the word that they draw from, the rule of that word, and what the steps on it tell. All of it
+//! exists in proofs alone.
 use atomic_table::{Join, Play, Split, TableRule};
 use std::collections::LinkedList;
 

@@ -41,7 +41,8 @@ pub(crate) fn push_effects(
     effects: &Vec<Effect>,
     list: &mut Vec<Instruction>,
 ) -> Result<(), Memory>
-    ensures { OnOk result (list_seen list.new.items ≡ list_seen list.old.items ++ effects_code (effects_seen effects.now.items)) }
+    ensures { OnOk result (list_seen list.new.items
+        ≡ list_seen list.old.items ++ effects_code (effects_seen effects.now.items)) }
 {
     for effect in effects {
         match push_effect(alloc, effect, list) {
@@ -55,7 +56,8 @@ pub(crate) fn push_effects(
 // Puts the code of an effect behind the others.
 #[cycle(compiling)]
 fn push_effect(alloc: Global, effect: &Effect, list: &mut Vec<Instruction>) -> Result<(), Memory>
-    ensures { OnOk result (list_seen list.new.items ≡ list_seen list.old.items ++ effect_code (effect_seen effect.now)) }
+    ensures { OnOk result (list_seen list.new.items
+        ≡ list_seen list.old.items ++ effect_code (effect_seen effect.now)) }
 {
     match effect {
         Effect::If(test, effects) => push_if(alloc, effects, test, list),
@@ -78,7 +80,8 @@ fn push_effect(alloc: Global, effect: &Effect, list: &mut Vec<Instruction>) -> R
 // Puts an effect that holds no others behind the others.
 fn push_simple(alloc: Global, effect: &Effect, list: &mut Vec<Instruction>) -> Result<(), Memory>
     requires { effect_code (effect_seen effect.now) ≡ simple (effect_seen effect.now) ∷ [] }
-    ensures { OnOk result (list_seen list.new.items ≡ list_seen list.old.items ++ effect_code (effect_seen effect.now)) }
+    ensures { OnOk result (list_seen list.new.items
+        ≡ list_seen list.old.items ++ effect_code (effect_seen effect.now)) }
 {
     match copy_effect(alloc, effect) {
         Ok(copy) => push(list, Instruction::Simple(copy)),
@@ -93,7 +96,8 @@ pub(crate) fn push_inside(
     effects: &Vec<Effect>,
     list: &mut Vec<Instruction>,
 ) -> Result<usize, Memory>
-    ensures code { OnOk result (list_seen list.new.items ≡ list_seen list.old.items ++ end_body ∷ effects_code (effects_seen effects.now.items)) }
+    ensures code { OnOk result (list_seen list.new.items
+        ≡ list_seen list.old.items ++ end_body ∷ effects_code (effects_seen effects.now.items)) }
     ensures inside { IfOk result (λ inside. inside ≡ length (effects_code (effects_seen effects.now.items))) }
 {
     match push(list, Instruction::End) {
@@ -114,7 +118,8 @@ fn push_if(
     test: &Test,
     list: &mut Vec<Instruction>,
 ) -> Result<(), Memory>
-    ensures { OnOk result (list_seen list.new.items ≡ list_seen list.old.items ++ effect_code (when (test_seen test.now) (effects_seen effects.now.items))) }
+    ensures { OnOk result (list_seen list.new.items
+        ≡ list_seen list.old.items ++ effect_code (when (test_seen test.now) (effects_seen effects.now.items))) }
 {
     let at = list.len();
     let inside = match push_inside(alloc, effects, list) {
@@ -137,7 +142,8 @@ fn push_repeat(
     count: &IntExpr,
     list: &mut Vec<Instruction>,
 ) -> Result<(), Memory>
-    ensures { OnOk result (list_seen list.new.items ≡ list_seen list.old.items ++ effect_code (repeat_of (int_seen count.now) (effects_seen effects.now.items))) }
+    ensures { OnOk result (list_seen list.new.items
+        ≡ list_seen list.old.items ++ effect_code (repeat_of (int_seen count.now) (effects_seen effects.now.items))) }
 {
     let at = list.len();
     let inside = match push_inside(alloc, effects, list) {
@@ -161,7 +167,9 @@ fn push_each(
     bound: u32,
     list: &mut Vec<Instruction>,
 ) -> Result<(), Memory>
-    ensures { OnOk result (list_seen list.new.items ≡ list_seen list.old.items ++ effect_code (for_each_of (domain_seen domain.now) bound (effects_seen effects.now.items))) }
+    ensures { OnOk result (list_seen list.new.items
+        ≡ list_seen list.old.items ++ effect_code
+        (for_each_of (domain_seen domain.now) bound (effects_seen effects.now.items))) }
 {
     let at = list.len();
     let inside = match push_inside(alloc, effects, list) {

@@ -18,8 +18,8 @@ use rc_ast::{Alt, Class, Effect, SheetItem, Test};
 use rc_deck::Memory;
 use std::alloc::Global;
 
-/// Puts the code of items behind the others, and the places of their choices behind the others' places. The stages that are
-/// open begin at the places `outer`, from outside to inside.
+/// Puts the code of items behind the others, and the places of their choices behind the others' places. The stages that
+/// are open begin at the places `outer`, from outside to inside.
 #[cycle(items)]
 pub(crate) fn push_items(
     alloc: Global,
@@ -28,8 +28,11 @@ pub(crate) fn push_items(
     outer: &mut Vec<usize>,
     sites: &mut Vec<SitePlace>,
 ) -> Result<(), Memory>
-    ensures code { OnOk result (list_seen list.new.items ≡ list_seen list.old.items ++ items_code (items_seen items.now.items)) }
-    ensures places { OnOk result (map place_seen sites.new.items ≡ map place_seen sites.old.items ++ items_sites outer.old.items (length list.old.items) (items_seen items.now.items)) }
+    ensures code { OnOk result (list_seen list.new.items
+        ≡ list_seen list.old.items ++ items_code (items_seen items.now.items)) }
+    ensures places { OnOk result (map place_seen sites.new.items
+        ≡ map place_seen sites.old.items
+        ++ items_sites outer.old.items (length list.old.items) (items_seen items.now.items)) }
     ensures outer { OnOk result (outer.new.items ≡ outer.old.items) }
 {
     for item in items {
@@ -50,7 +53,8 @@ fn push_item(
     sites: &mut Vec<SitePlace>,
 ) -> Result<(), Memory>
     ensures code { OnOk result (list_seen list.new.items ≡ list_seen list.old.items ++ item_code (item_seen item.now)) }
-    ensures places { OnOk result (map place_seen sites.new.items ≡ map place_seen sites.old.items ++ item_sites outer.old.items (length list.old.items) (item_seen item.now)) }
+    ensures places { OnOk result (map place_seen sites.new.items
+        ≡ map place_seen sites.old.items ++ item_sites outer.old.items (length list.old.items) (item_seen item.now)) }
     ensures outer { OnOk result (outer.new.items ≡ outer.old.items) }
 {
     match item {
@@ -66,7 +70,8 @@ fn push_item(
 }
 
 fn push_do(alloc: Global, effects: &Vec<Effect>, list: &mut Vec<Instruction>) -> Result<(), Memory>
-    ensures { OnOk result (list_seen list.new.items ≡ list_seen list.old.items ++ item_code (do_item (effects_seen effects.now.items))) }
+    ensures { OnOk result (list_seen list.new.items
+        ≡ list_seen list.old.items ++ item_code (do_item (effects_seen effects.now.items))) }
 {
     let at = list.len();
     match push_inside(alloc, effects, list) {
@@ -89,8 +94,13 @@ fn push_stage(
     outer: &mut Vec<usize>,
     sites: &mut Vec<SitePlace>,
 ) -> Result<(), Memory>
-    ensures code { OnOk result (list_seen list.new.items ≡ list_seen list.old.items ++ item_code (stage_of number class (test_seen end.now) (items_seen body.now.items))) }
-    ensures places { OnOk result (map place_seen sites.new.items ≡ map place_seen sites.old.items ++ items_sites (outer.old.items ++ length list.old.items ∷ []) (length list.old.items + 1) (items_seen body.now.items)) }
+    ensures code { OnOk result (list_seen list.new.items
+        ≡ list_seen list.old.items ++ item_code
+        (stage_of number class (test_seen end.now) (items_seen body.now.items))) }
+    ensures places { OnOk result (map place_seen sites.new.items
+        ≡ map place_seen sites.old.items
+        ++ items_sites (outer.old.items ++ length list.old.items ∷ []) (length list.old.items + 1)
+        (items_seen body.now.items)) }
     ensures outer { OnOk result (outer.new.items ≡ outer.old.items) }
 {
     let at = list.len();
@@ -125,9 +135,13 @@ fn push_inside_stage(
     outer: &mut Vec<usize>,
     sites: &mut Vec<SitePlace>,
 ) -> Result<usize, Memory>
-    ensures code { OnOk result (list_seen list.new.items ≡ list_seen list.old.items ++ end_body ∷ (items_code (items_seen body.now.items) ++ end_body ∷ [])) }
+    ensures code { OnOk result (list_seen list.new.items
+        ≡ list_seen list.old.items ++ end_body ∷ (items_code (items_seen body.now.items) ++ end_body ∷ [])) }
     ensures inside { IfOk result (λ inside. inside ≡ length (items_code (items_seen body.now.items)) + 1) }
-    ensures places { OnOk result (map place_seen sites.new.items ≡ map place_seen sites.old.items ++ items_sites (outer.old.items ++ length list.old.items ∷ []) (length list.old.items + 1) (items_seen body.now.items)) }
+    ensures places { OnOk result (map place_seen sites.new.items
+        ≡ map place_seen sites.old.items
+        ++ items_sites (outer.old.items ++ length list.old.items ∷ []) (length list.old.items + 1)
+        (items_seen body.now.items)) }
     ensures outer { OnOk result (outer.new.items ≡ outer.old.items) }
 {
     match push(list, Instruction::End) {
@@ -156,8 +170,12 @@ fn push_body(
     sites: &mut Vec<SitePlace>,
 ) -> Result<(), Memory>
     requires { 0 < length list.old.items }
-    ensures code { OnOk result (list_seen list.new.items ≡ list_seen list.old.items ++ items_code (items_seen body.now.items)) }
-    ensures places { OnOk result (map place_seen sites.new.items ≡ map place_seen sites.old.items ++ items_sites (outer.old.items ++ (length list.old.items - 1) ∷ []) (length list.old.items) (items_seen body.now.items)) }
+    ensures code { OnOk result (list_seen list.new.items
+        ≡ list_seen list.old.items ++ items_code (items_seen body.now.items)) }
+    ensures places { OnOk result (map place_seen sites.new.items
+        ≡ map place_seen sites.old.items
+        ++ items_sites (outer.old.items ++ (length list.old.items - 1) ∷ []) (length list.old.items)
+        (items_seen body.now.items)) }
     ensures outer { OnOk result (outer.new.items ≡ outer.old.items) }
 {
     let depth = outer.len();
@@ -181,8 +199,10 @@ fn push_choice(
     outer: &Vec<usize>,
     sites: &mut Vec<SitePlace>,
 ) -> Result<(), Memory>
-    ensures code { OnOk result (list_seen list.new.items ≡ list_seen list.old.items ++ item_code (choice_of site (alts_seen alts.now.items))) }
-    ensures places { OnOk result (map place_seen sites.new.items ≡ map place_seen sites.old.items ++ record { outer = outer.now.items; place = length list.old.items } ∷ []) }
+    ensures code { OnOk result (list_seen list.new.items
+        ≡ list_seen list.old.items ++ item_code (choice_of site (alts_seen alts.now.items))) }
+    ensures places { OnOk result (map place_seen sites.new.items
+        ≡ map place_seen sites.old.items ++ record { outer = outer.now.items; place = length list.old.items } ∷ []) }
 {
     match push_place(alloc, outer, list.len(), sites) {
         Ok(()) => {}
@@ -198,7 +218,8 @@ fn push_place(
     place: usize,
     sites: &mut Vec<SitePlace>,
 ) -> Result<(), Memory>
-    ensures { OnOk result (map place_seen sites.new.items ≡ map place_seen sites.old.items ++ record { outer = outer.now.items; place = place } ∷ []) }
+    ensures { OnOk result (map place_seen sites.new.items
+        ≡ map place_seen sites.old.items ++ record { outer = outer.now.items; place = place } ∷ []) }
 {
     let outer = match outer.to_vec(alloc) {
         Ok(outer) => outer,
@@ -217,7 +238,8 @@ fn push_offer(
     alts: &Vec<Alt>,
     list: &mut Vec<Instruction>,
 ) -> Result<(), Memory>
-    ensures { OnOk result (list_seen list.new.items ≡ list_seen list.old.items ++ item_code (choice_of site (alts_seen alts.now.items))) }
+    ensures { OnOk result (list_seen list.new.items
+        ≡ list_seen list.old.items ++ item_code (choice_of site (alts_seen alts.now.items))) }
 {
     let at = list.len();
     let blocks = match push_inside_choice(alloc, alts, list) {
@@ -249,7 +271,8 @@ fn push_inside_choice(
     alts: &Vec<Alt>,
     list: &mut Vec<Instruction>,
 ) -> Result<Vec<Block>, Memory>
-    ensures code { OnOk result (list_seen list.new.items ≡ list_seen list.old.items ++ end_body ∷ alts_code (alts_seen alts.now.items)) }
+    ensures code { OnOk result (list_seen list.new.items
+        ≡ list_seen list.old.items ++ end_body ∷ alts_code (alts_seen alts.now.items)) }
     ensures blocks { IfOk result (λ blocks. map block_seen blocks.items ≡ blocks_from 0 (alts_seen alts.now.items)) }
 {
     match push(list, Instruction::End) {
@@ -270,8 +293,10 @@ fn push_alts(
     list: &mut Vec<Instruction>,
     blocks: &mut Vec<Block>,
 ) -> Result<(), Memory>
-    ensures code { OnOk result (list_seen list.new.items ≡ list_seen list.old.items ++ alts_code (alts_seen alts.now.items)) }
-    ensures blocks { OnOk result (map block_seen blocks.new.items ≡ map block_seen blocks.old.items ++ blocks_from 0 (alts_seen alts.now.items)) }
+    ensures code { OnOk result (list_seen list.new.items
+        ≡ list_seen list.old.items ++ alts_code (alts_seen alts.now.items)) }
+    ensures blocks { OnOk result (map block_seen blocks.new.items
+        ≡ map block_seen blocks.old.items ++ blocks_from 0 (alts_seen alts.now.items)) }
 {
     let from = list.len();
     for alt in alts {
@@ -291,7 +316,8 @@ fn push_alts(
 
 // Puts the effects of an alternative behind the others.
 fn push_alt(alloc: Global, alt: &Alt, list: &mut Vec<Instruction>) -> Result<(), Memory>
-    ensures { OnOk result (list_seen list.new.items ≡ list_seen list.old.items ++ effects_code (effects_of (alt_seen alt.now))) }
+    ensures { OnOk result (list_seen list.new.items
+        ≡ list_seen list.old.items ++ effects_code (effects_of (alt_seen alt.now))) }
 {
     match alt {
         Alt::Do(effects) => push_effects(alloc, effects, list),

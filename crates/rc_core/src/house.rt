@@ -29,8 +29,9 @@ use std::alloc::Global;
 use std::marker::Model;
 use std::sync::Arc;
 
-/// The matches of a plan on their way, with a machine for each, and the entries that they share, the most recent first. Contracts see
-/// where each match stands and the keys of the entries. Each match is, as far as it was played, the one of the plan.
+/// The matches of a plan on their way, with a machine for each, and the entries that they share, the most recent first.
+/// Contracts see where each match stands and the keys of the entries. Each match is, as far as it was played, the one
+/// of the plan.
 #[derive(Drop)]
 pub struct House {
     about: Arc<About>,
@@ -60,8 +61,9 @@ impl Model for House {
 }
 
 impl House {
-    /// A house in which nothing was done yet: no entries, and each match is ready without a pick. The plan has a strategy for each
-    /// player, and fewer matches than 2^32. The code of the sheet is made here, once. Memory may run out.
+    /// A house in which nothing was done yet: no entries, and each match is ready without a pick. The plan has a
+    /// strategy for each player, and fewer matches than 2^32. The code of the sheet is made here, once. Memory may run
+    /// out.
     pub fn new(
         alloc: Global,
         about: Arc<About>,
@@ -94,8 +96,8 @@ impl House {
         self.matches.len()
     }
 
-    /// The record of a match as far as it was played. Its picks are the first ones of the match of the plan, also where it is spent,
-    /// and where it is over, its record is that match's.
+    /// The record of a match as far as it was played. Its picks are the first ones of the match of the plan, also where
+    /// it is spent, and where it is over, its record is that match's.
     pub fn notes_of(&self, m: u32) -> &MatchRecord
         requires { m < length self.now.matches }
         ensures is { IfSome (slice_get self.now.matches m) (λ lane. record_seen result.now ≡ lane.notes) }
@@ -195,9 +197,9 @@ impl House {
     }
 }
 
-/// What follows from events, one after another: their number. A match that lacked memory is spent: it stays as it is from then on, and
-/// an event that names it answers Memory. Where memory runs out, some first events were done, and of the next one nothing, or its match
-/// becomes spent and keeps its record. The house is sound again.
+/// What follows from events, one after another: their number. A match that lacked memory is spent: it stays as it is
+/// from then on, and an event that names it answers Memory. Where memory runs out, some first events were done, and of
+/// the next one nothing, or its match becomes spent and keeps its record. The house is sound again.
 pub fn run_core(alloc: Global, house: &mut House, events: &[Event]) -> Result<usize, Memory>
     ensures count { IfOk result (λ count. count ≡ length events.now) }
     ensures leaves { OnOk result (house.new ≡ after_events house.old (map event_seen events.now)) }

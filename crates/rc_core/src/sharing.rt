@@ -20,17 +20,20 @@ use rc_redraw::{Entry, Key};
 use rc_rollout::{asked_key, first_largest};
 use std::alloc::Global;
 
-/// Looks up among the entries what a match asks of playouts. Where it is there, its entry comes to the front, and the item with its
-/// largest total is ready; else it is missed.
+/// Looks up among the entries what a match asks of playouts. Where it is there, its entry comes to the front, and the
+/// item with its largest total is ready; else it is missed.
 pub(crate) fn look_up(
     alloc: Global,
     phase: &mut Phase,
     entries: &mut Vec<Entry>,
 ) -> Result<(), Memory>
-    requires wants { (about : About) × Wants about (phase_seen phase.old) × AllByRecursion (λ key. key.about ≡ about) entries.old.items }
-    ensures is { OnOk result ((capacity : ℕ) → (phase_seen phase.new, entries.new.items) ≡ looked_up capacity entries.old.items (phase_seen phase.old)) }
+    requires wants { (about : About) × Wants about (phase_seen phase.old)
+        × AllByRecursion (λ key. key.about ≡ about) entries.old.items }
+    ensures is { OnOk result ((capacity : ℕ)
+        → (phase_seen phase.new, entries.new.items) ≡ looked_up capacity entries.old.items (phase_seen phase.old)) }
     ensures open { OnOk result (phase_seen phase.old ≢ spent) }
-    ensures lacking { OnErr result ((phase_seen phase.new ≡ phase_seen phase.old) × (entries.new.items ≡ entries.old.items)) }
+    ensures lacking { OnErr result ((phase_seen phase.new ≡ phase_seen phase.old)
+        × (entries.new.items ≡ entries.old.items)) }
 {
     match &*phase {
         Phase::Asks(need) => match asked_key(alloc, need) {
@@ -64,16 +67,19 @@ fn find(phase: &mut Phase, entries: &mut Vec<Entry>, key: &Key, menu: u16)
     }
 }
 
-/// Gives the entry that a match holds to the others, of which there are so many at most. The item with its largest total is ready.
+/// Gives the entry that a match holds to the others, of which there are so many at most. The item with its largest
+/// total is ready.
 pub(crate) fn hand_over(
     phase: &mut Phase,
     entries: &mut Vec<Entry>,
     capacity: usize,
 ) -> Result<(), Memory>
     requires wants { (about : About) × Wants about (phase_seen phase.old) }
-    ensures is { OnOk result ((phase_seen phase.new, entries.new.items) ≡ handed_over capacity entries.old.items (phase_seen phase.old)) }
+    ensures is { OnOk result ((phase_seen phase.new, entries.new.items)
+        ≡ handed_over capacity entries.old.items (phase_seen phase.old)) }
     ensures open { OnOk result (phase_seen phase.old ≢ spent) }
-    ensures lacking { OnErr result ((phase_seen phase.new ≡ phase_seen phase.old) × (entries.new.items ≡ entries.old.items)) }
+    ensures lacking { OnErr result ((phase_seen phase.new ≡ phase_seen phase.old)
+        × (entries.new.items ≡ entries.old.items)) }
 {
     let item = match &*phase {
         Phase::Holds(need, entry) => best_of(entry, need.menu),

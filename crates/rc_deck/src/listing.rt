@@ -32,7 +32,8 @@ fn extend_by_groups(alloc: Global, face: Face, groups: &Vec<Group>) -> Result<Ve
 // Each face in turn, extended by each face of the group.
 #[cycle(listing)]
 fn extend_all(alloc: Global, faces: Vec<Face>, group: &Group) -> Result<Vec<Face>, Memory>
-    ensures { IfOk result (λ v. v.items ≡ joined faces.items (faces_of_branches (attr_of group.now) (branches_of group.now))) }
+    ensures { IfOk result (λ v. v.items
+        ≡ joined faces.items (faces_of_branches (attr_of group.now) (branches_of group.now))) }
 {
     let mut all = Vec::new(alloc);
     for face in faces {

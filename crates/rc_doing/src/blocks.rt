@@ -62,7 +62,8 @@ pub fn past(code: &[Instruction], count: usize) -> &[Instruction]
 // The test and what is inside, where a block is one `if`.
 #[inline(always)]
 fn sole_if(code: &[Instruction]) -> Option<(&Asked, &[Instruction])>
-    ensures is { IfSome result (λ sole. effects_in (list_seen code.now) ≡ effect (when sole.0.now (effects_in (list_seen sole.1.now))) no_effect) }
+    ensures is { IfSome result (λ sole. effects_in (list_seen code.now)
+        ≡ effect (when sole.0.now (effects_in (list_seen sole.1.now))) no_effect) }
     ensures simple { IfSome result (λ sole. AreSimple (list_seen code.now) → AreSimple (list_seen sole.1.now)) }
     ensures shorter { IfSome result (λ sole. length sole.1.now < length code.now) }
 {
@@ -88,10 +89,13 @@ pub fn do_block<D: Dealer>(
     dealer: &mut D,
 ) -> Result<(), Memory>
     requires stands { Stands context.now board.old.laid frames.old.items }
-    requires well { AreEffectsUnder context.now.about.now.sheet context.now.scope.now (effects_in (list_seen code.now)) }
+    requires well { AreEffectsUnder context.now.about.now.sheet context.now.scope.now
+        (effects_in (list_seen code.now)) }
     requires simple { AreSimple (list_seen code.now) }
-    ensures does { OnOk result (does context.now.about.now (D.dealing dealer.old) context.now.scope.now (effects_in (list_seen code.now))
-        (point_of board.old.laid frames.old.items (D.state dealer.old)) ≡ point_of board.new.laid frames.new.items (D.state dealer.new)) }
+    ensures does { OnOk result (does context.now.about.now (D.dealing dealer.old) context.now.scope.now
+        (effects_in (list_seen code.now))
+        (point_of board.old.laid frames.old.items (D.state dealer.old))
+        ≡ point_of board.new.laid frames.new.items (D.state dealer.new)) }
     ensures stands { OnOk result (Stands context.now board.new.laid frames.new.items) }
     ensures keeps { Keeps board.old board.new }
     ensures quiet { board.old.notes ≡ false → IsOk result }
@@ -121,12 +125,16 @@ fn do_first<'c, D: Dealer>(
     dealer: &mut D,
 ) -> Result<&'c [Instruction], Memory>
     requires stands { Stands context.now board.old.laid frames.old.items }
-    requires well { AreEffectsUnder context.now.about.now.sheet context.now.scope.now (first_effects (instruction_seen first.now) (list_seen behind.now)) }
+    requires well { AreEffectsUnder context.now.about.now.sheet context.now.scope.now
+        (first_effects (instruction_seen first.now) (list_seen behind.now)) }
     requires simple { IsSimple (instruction_seen first.now) }
     requires inside { AreSimple (list_seen behind.now) }
-    ensures does { OnOk result (does context.now.about.now (D.dealing dealer.old) context.now.scope.now (first_effects (instruction_seen first.now) (list_seen behind.now))
-        (point_of board.old.laid frames.old.items (D.state dealer.old)) ≡ point_of board.new.laid frames.new.items (D.state dealer.new)) }
-    ensures left { IfOk result (λ left. list_seen left.now ≡ drop (passed_over (instruction_seen first.now)) (list_seen behind.now)) }
+    ensures does { OnOk result (does context.now.about.now (D.dealing dealer.old) context.now.scope.now
+        (first_effects (instruction_seen first.now) (list_seen behind.now))
+        (point_of board.old.laid frames.old.items (D.state dealer.old))
+        ≡ point_of board.new.laid frames.new.items (D.state dealer.new)) }
+    ensures left { IfOk result (λ left. list_seen left.now
+        ≡ drop (passed_over (instruction_seen first.now)) (list_seen behind.now)) }
     ensures simple { IfOk result (λ left. AreSimple (list_seen left.now)) }
     ensures shorter { IfOk result (λ left. length left.now ≤ length behind.now) }
     ensures stands { OnOk result (Stands context.now board.new.laid frames.new.items) }
@@ -187,10 +195,13 @@ fn do_if<D: Dealer>(
     dealer: &mut D,
 ) -> Result<(), Memory>
     requires stands { Stands context.now board.old.laid frames.old.items }
-    requires well { IsEffectUnder context.now.about.now.sheet context.now.scope.now (when test.now (effects_in (list_seen inside.now))) }
+    requires well { IsEffectUnder context.now.about.now.sheet context.now.scope.now
+        (when test.now (effects_in (list_seen inside.now))) }
     requires simple { AreSimple (list_seen inside.now) }
-    ensures does { OnOk result (does_one context.now.about.now (D.dealing dealer.old) context.now.scope.now (when test.now (effects_in (list_seen inside.now)))
-        (point_of board.old.laid frames.old.items (D.state dealer.old)) ≡ point_of board.new.laid frames.new.items (D.state dealer.new)) }
+    ensures does { OnOk result (does_one context.now.about.now (D.dealing dealer.old) context.now.scope.now
+        (when test.now (effects_in (list_seen inside.now)))
+        (point_of board.old.laid frames.old.items (D.state dealer.old))
+        ≡ point_of board.new.laid frames.new.items (D.state dealer.new)) }
     ensures stands { OnOk result (Stands context.now board.new.laid frames.new.items) }
     ensures keeps { Keeps board.old board.new }
     ensures quiet { board.old.notes ≡ false → IsOk result }
@@ -215,10 +226,13 @@ fn repeat<D: Dealer>(
     dealer: &mut D,
 ) -> Result<(), Memory>
     requires stands { Stands context.now board.old.laid frames.old.items }
-    requires well { IsEffectUnder context.now.about.now.sheet context.now.scope.now (repeat_of (int_seen count.now) (effects_in (list_seen inside.now))) }
+    requires well { IsEffectUnder context.now.about.now.sheet context.now.scope.now
+        (repeat_of (int_seen count.now) (effects_in (list_seen inside.now))) }
     requires simple { AreSimple (list_seen inside.now) }
-    ensures does { OnOk result (does_one context.now.about.now (D.dealing dealer.old) context.now.scope.now (repeat_of (int_seen count.now) (effects_in (list_seen inside.now)))
-        (point_of board.old.laid frames.old.items (D.state dealer.old)) ≡ point_of board.new.laid frames.new.items (D.state dealer.new)) }
+    ensures does { OnOk result (does_one context.now.about.now (D.dealing dealer.old) context.now.scope.now
+        (repeat_of (int_seen count.now) (effects_in (list_seen inside.now)))
+        (point_of board.old.laid frames.old.items (D.state dealer.old))
+        ≡ point_of board.new.laid frames.new.items (D.state dealer.new)) }
     ensures stands { OnOk result (Stands context.now board.new.laid frames.new.items) }
     ensures keeps { Keeps board.old board.new }
     ensures quiet { board.old.notes ≡ false → IsOk result }
@@ -256,10 +270,13 @@ fn for_each<D: Dealer>(
     dealer: &mut D,
 ) -> Result<(), Memory>
     requires stands { Stands context.now board.old.laid frames.old.items }
-    requires well { IsEffectUnder context.now.about.now.sheet context.now.scope.now (for_each_of (domain_seen domain.now) bound (effects_in (list_seen inside.now))) }
+    requires well { IsEffectUnder context.now.about.now.sheet context.now.scope.now
+        (for_each_of (domain_seen domain.now) bound (effects_in (list_seen inside.now))) }
     requires simple { AreSimple (list_seen inside.now) }
-    ensures does { OnOk result (does_one context.now.about.now (D.dealing dealer.old) context.now.scope.now (for_each_of (domain_seen domain.now) bound (effects_in (list_seen inside.now)))
-        (point_of board.old.laid frames.old.items (D.state dealer.old)) ≡ point_of board.new.laid frames.new.items (D.state dealer.new)) }
+    ensures does { OnOk result (does_one context.now.about.now (D.dealing dealer.old) context.now.scope.now
+        (for_each_of (domain_seen domain.now) bound (effects_in (list_seen inside.now)))
+        (point_of board.old.laid frames.old.items (D.state dealer.old))
+        ≡ point_of board.new.laid frames.new.items (D.state dealer.new)) }
     ensures stands { OnOk result (Stands context.now board.new.laid frames.new.items) }
     ensures keeps { Keeps board.old board.new }
     ensures quiet { board.old.notes ≡ false → IsOk result }
@@ -291,10 +308,15 @@ fn for_players<D: Dealer>(
 ) -> Result<(), Memory>
     requires stands { Stands context.now board.old.laid frames.old.items }
     requires room { length context.now.scope.now < 5 }
-    requires well { (member : PureBind CardValue) → AreEffectsUnder context.now.about.now.sheet (context.now.scope.now ++ member ∷ []) (effects_in (list_seen inside.now)) }
+    requires well { (member : PureBind CardValue)
+        → AreEffectsUnder context.now.about.now.sheet (context.now.scope.now ++ member ∷ [])
+        (effects_in (list_seen inside.now)) }
     requires simple { AreSimple (list_seen inside.now) }
-    ensures does { OnOk result (fold (λ mid member. does context.now.about.now (D.dealing dealer.old) (context.now.scope.now ++ member ∷ []) (effects_in (list_seen inside.now)) mid)
-        (point_of board.old.laid frames.old.items (D.state dealer.old)) (map (λ n. player_bound n) (below context.now.about.now.sheet.players))
+    ensures does { OnOk result (fold
+        (λ mid member. does context.now.about.now (D.dealing dealer.old) (context.now.scope.now ++ member ∷ [])
+        (effects_in (list_seen inside.now)) mid)
+        (point_of board.old.laid frames.old.items (D.state dealer.old))
+        (map (λ n. player_bound n) (below context.now.about.now.sheet.players))
         ≡ point_of board.new.laid frames.new.items (D.state dealer.new)) }
     ensures stands { OnOk result (Stands context.now board.new.laid frames.new.items) }
     ensures keeps { Keeps board.old board.new }
@@ -328,11 +350,16 @@ fn for_cards<D: Dealer>(
     requires stands { Stands context.now board.old.laid frames.old.items }
     requires cards { IsCollUnder context.now.about.now.sheet context.now.scope.now (coll_seen cards.now) }
     requires room { length context.now.scope.now < 5 }
-    requires well { (member : PureBind CardValue) → AreEffectsUnder context.now.about.now.sheet (context.now.scope.now ++ member ∷ []) (effects_in (list_seen inside.now)) }
+    requires well { (member : PureBind CardValue)
+        → AreEffectsUnder context.now.about.now.sheet (context.now.scope.now ++ member ∷ [])
+        (effects_in (list_seen inside.now)) }
     requires simple { AreSimple (list_seen inside.now) }
-    ensures does { OnOk result (fold (λ mid member. does context.now.about.now (D.dealing dealer.old) (context.now.scope.now ++ member ∷ []) (effects_in (list_seen inside.now)) mid)
+    ensures does { OnOk result (fold
+        (λ mid member. does context.now.about.now (D.dealing dealer.old) (context.now.scope.now ++ member ∷ [])
+        (effects_in (list_seen inside.now)) mid)
         (point_of board.old.laid frames.old.items (D.state dealer.old))
-        (map (λ c. card_bound c) (coll_value (scene_in context.now board.old.laid frames.old.items) context.now.scope.now (coll_seen cards.now)))
+        (map (λ c. card_bound c) (coll_value
+        (scene_in context.now board.old.laid frames.old.items) context.now.scope.now (coll_seen cards.now)))
         ≡ point_of board.new.laid frames.new.items (D.state dealer.new)) }
     ensures stands { OnOk result (Stands context.now board.new.laid frames.new.items) }
     ensures keeps { Keeps board.old board.new }
@@ -363,10 +390,15 @@ fn for_these<D: Dealer>(
     requires stands { Stands context.now board.old.laid frames.old.items }
     requires cards { All (λ card. IsCardOf context.now.about.now.shape (value_seen card)) cards.now }
     requires room { length context.now.scope.now < 5 }
-    requires well { (member : PureBind CardValue) → AreEffectsUnder context.now.about.now.sheet (context.now.scope.now ++ member ∷ []) (effects_in (list_seen inside.now)) }
+    requires well { (member : PureBind CardValue)
+        → AreEffectsUnder context.now.about.now.sheet (context.now.scope.now ++ member ∷ [])
+        (effects_in (list_seen inside.now)) }
     requires simple { AreSimple (list_seen inside.now) }
-    ensures does { OnOk result (fold (λ mid member. does context.now.about.now (D.dealing dealer.old) (context.now.scope.now ++ member ∷ []) (effects_in (list_seen inside.now)) mid)
-        (point_of board.old.laid frames.old.items (D.state dealer.old)) (map (λ c. card_bound c) (values_seen cards.now))
+    ensures does { OnOk result (fold
+        (λ mid member. does context.now.about.now (D.dealing dealer.old) (context.now.scope.now ++ member ∷ [])
+        (effects_in (list_seen inside.now)) mid)
+        (point_of board.old.laid frames.old.items (D.state dealer.old))
+        (map (λ c. card_bound c) (values_seen cards.now))
         ≡ point_of board.new.laid frames.new.items (D.state dealer.new)) }
     ensures stands { OnOk result (Stands context.now board.new.laid frames.new.items) }
     ensures keeps { Keeps board.old board.new }
@@ -401,10 +433,13 @@ fn do_for<'g, D: Dealer>(
     requires stands { Stands context.now board.old.laid frames.old.items }
     requires scope { (other : PureBind CardValue) × (scope.old ≡ context.now.scope.now ++ other ∷ []) }
     requires bind { IsBindOf context.now.about.now.shape (bind_seen bind) }
-    requires well { AreEffectsUnder context.now.about.now.sheet (context.now.scope.now ++ bind_seen bind ∷ []) (effects_in (list_seen inside.now)) }
+    requires well { AreEffectsUnder context.now.about.now.sheet (context.now.scope.now ++ bind_seen bind ∷ [])
+        (effects_in (list_seen inside.now)) }
     requires simple { AreSimple (list_seen inside.now) }
-    ensures does { OnOk result (does context.now.about.now (D.dealing dealer.old) (context.now.scope.now ++ bind_seen bind.entry ∷ []) (effects_in (list_seen inside.now))
-        (point_of board.old.laid frames.old.items (D.state dealer.old)) ≡ point_of board.new.laid frames.new.items (D.state dealer.new)) }
+    ensures does { OnOk result (does context.now.about.now (D.dealing dealer.old)
+        (context.now.scope.now ++ bind_seen bind.entry ∷ []) (effects_in (list_seen inside.now))
+        (point_of board.old.laid frames.old.items (D.state dealer.old))
+        ≡ point_of board.new.laid frames.new.items (D.state dealer.new)) }
     ensures scope { (other : PureBind CardValue) × (scope.new ≡ context.now.scope.now ++ other ∷ []) }
     ensures stands { OnOk result (Stands context.now board.new.laid frames.new.items) }
     ensures keeps { Keeps board.old board.new }
@@ -433,10 +468,13 @@ fn do_inside<D: Dealer>(
     dealer: &mut D,
 ) -> Result<(), Memory>
     requires stands { Stands context.now board.old.laid frames.old.items }
-    requires well { AreEffectsUnder context.now.about.now.sheet context.now.scope.now (effects_in (list_seen code.now)) }
+    requires well { AreEffectsUnder context.now.about.now.sheet context.now.scope.now
+        (effects_in (list_seen code.now)) }
     requires simple { AreSimple (list_seen code.now) }
-    ensures does { OnOk result (does context.now.about.now (D.dealing dealer.old) context.now.scope.now (effects_in (list_seen code.now))
-        (point_of board.old.laid frames.old.items (D.state dealer.old)) ≡ point_of board.new.laid frames.new.items (D.state dealer.new)) }
+    ensures does { OnOk result (does context.now.about.now (D.dealing dealer.old) context.now.scope.now
+        (effects_in (list_seen code.now))
+        (point_of board.old.laid frames.old.items (D.state dealer.old))
+        ≡ point_of board.new.laid frames.new.items (D.state dealer.new)) }
     ensures stands { OnOk result (Stands context.now board.new.laid frames.new.items) }
     ensures keeps { Keeps board.old board.new }
     ensures quiet { board.old.notes ≡ false → IsOk result }

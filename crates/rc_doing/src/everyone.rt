@@ -1,4 +1,5 @@
-//! What is done for each player without a variable: a number of each is set to one value, or cards of each are gathered.
+//! What is done for each player without a variable: a number of each is set to one value, or cards of each are
+//! gathered.
 ghost use Rattle.std.specs.Prelude.{◌≡◌, true, false, length, map, fold, Some, IfSome, OnOk, IsOk};
 ghost use Rattle.rc_model.specs.Clamp.{IsWithinClamp};
 ghost use Rattle.rc_model.specs.Numbers.{below};
@@ -31,11 +32,12 @@ pub struct EachNumber {
     pub value: i64,
 }
 
-/// The number and the value, where a block under one more variable, which stands for a player, does nothing but set a number of that
-/// player to a value that is written out.
+/// The number and the value, where a block under one more variable, which stands for a player, does nothing but set a
+/// number of that player to a value that is written out.
 #[inline(always)]
 pub fn set_for_each(context: &Context, code: &[Instruction]) -> Option<EachNumber>
-    ensures { IfSome result (λ each. effects_in (list_seen code.now) ≡ effect (setting (length context.now.scope.now) each.name each.value) no_effect) }
+    ensures { IfSome result (λ each. effects_in (list_seen code.now)
+        ≡ effect (setting (length context.now.scope.now) each.name each.value) no_effect) }
 {
     match code {
         [Instruction::Simple(effect)] => match set_of_member(effect, context.scope.len()) {
@@ -81,7 +83,8 @@ fn is_member(who: &Who, outside: usize) -> bool
 pub fn set_all(about: &About, each: EachNumber, board: &mut Board) -> Result<(), Memory>
     requires { IsWithinClamp each.value }
     ensures leads { OnOk result (board.new.laid ≡ relaid board.old.laid
-        (fold (set_for about.now.sheet each.name each.value) board.old.laid.table (map (λ n. player_bound n) (below about.now.sheet.players)))) }
+        (fold (set_for about.now.sheet each.name each.value) board.old.laid.table
+        (map (λ n. player_bound n) (below about.now.sheet.players)))) }
     ensures keeps { Keeps board.old board.new }
     ensures quiet { board.old.notes ≡ false → IsOk result }
 {
@@ -98,7 +101,9 @@ pub fn set_all(about: &About, each: EachNumber, board: &mut Board) -> Result<(),
 #[inline(always)]
 fn set_one(about: &About, each: EachNumber, player: u8, board: &mut Board) -> Result<(), Memory>
     requires { IsWithinClamp each.value }
-    ensures leads { OnOk result (board.new.laid ≡ relaid board.old.laid (set_for about.now.sheet each.name each.value board.old.laid.table (player_bound player))) }
+    ensures leads { OnOk result (board.new.laid
+        ≡ relaid board.old.laid (set_for about.now.sheet each.name each.value board.old.laid.table
+        (player_bound player))) }
     ensures keeps { Keeps board.old board.new }
     ensures quiet { board.old.notes ≡ false → IsOk result }
 {
@@ -123,11 +128,12 @@ pub struct EachPile<'c> {
     pub to: &'c Loc,
 }
 
-/// The two, where a block under one more variable, which stands for a player, does nothing but move all cards of a location of that
-/// player to the top of another one, whose owner isn't found by the variable.
+/// The two, where a block under one more variable, which stands for a player, does nothing but move all cards of a
+/// location of that player to the top of another one, whose owner isn't found by the variable.
 #[inline(always)]
 pub fn gather_for_each<'c>(context: &Context, code: &'c [Instruction]) -> Option<EachPile<'c>>
-    ensures is { IfSome result (λ each. effects_in (list_seen code.now) ≡ effect (gathering (loc_seen each.from.now) (loc_seen each.to.now)) no_effect) }
+    ensures is { IfSome result (λ each. effects_in (list_seen code.now)
+        ≡ effect (gathering (loc_seen each.from.now) (loc_seen each.to.now)) no_effect) }
     ensures member { IfSome result (λ each. who_seen each.from.now.who ≡ who_var (length context.now.scope.now)) }
     ensures apart { IfSome result (λ each. IsApart (length context.now.scope.now) (who_seen each.to.now.who)) }
 {
@@ -143,7 +149,8 @@ pub fn gather_for_each<'c>(context: &Context, code: &'c [Instruction]) -> Option
 // The same of an effect. So many variables stand outside that one.
 #[inline(always)]
 fn gather_of_member(effect: &Effect, outside: usize) -> Option<EachPile<'_>>
-    ensures is { IfSome result (λ each. effect_seen effect.now ≡ gathering (loc_seen each.from.now) (loc_seen each.to.now)) }
+    ensures is { IfSome result (λ each. effect_seen effect.now
+        ≡ gathering (loc_seen each.from.now) (loc_seen each.to.now)) }
     ensures member { IfSome result (λ each. who_seen each.from.now.who ≡ who_var outside) }
     ensures apart { IfSome result (λ each. IsApart outside (who_seen each.to.now.who)) }
 {
@@ -184,8 +191,12 @@ pub fn gather_all(
     requires stands { Stands context.now board.old.laid frames.now.items }
     requires cards { holds_references context.now.about.now.sheet each.to.now.name ≡ Some false }
     ensures leads { OnOk result (board.new.laid ≡ relaid board.old.laid
-        (if_some (λ to table. fold (gather_for context.now.about.now.sheet board.old.laid.shape each.entry.from.now.name to) table (map (λ n. player_bound n) (below context.now.about.now.sheet.players)))
-        (loc_place (scene_in context.now board.old.laid frames.now.items).known context.now.scope.now (loc_seen each.entry.to.now)) board.old.laid.table)) }
+        (if_some
+        (λ to table. fold
+        (gather_for context.now.about.now.sheet board.old.laid.shape each.entry.from.now.name to) table
+        (map (λ n. player_bound n) (below context.now.about.now.sheet.players)))
+        (loc_place (scene_in context.now board.old.laid frames.now.items).known context.now.scope.now
+        (loc_seen each.entry.to.now)) board.old.laid.table)) }
     ensures keeps { Keeps board.old board.new }
     ensures quiet { board.old.notes ≡ false → IsOk result }
 {
@@ -200,7 +211,8 @@ pub fn gather_all(
 fn gather_on(about: &About, name: u16, to: u16, board: &mut Board) -> Result<(), Memory>
     requires { HoldsCards board.old.laid.shape to }
     ensures leads { OnOk result (board.new.laid ≡ relaid board.old.laid
-        (fold (gather_for about.now.sheet board.old.laid.shape name to) board.old.laid.table (map (λ n. player_bound n) (below about.now.sheet.players)))) }
+        (fold (gather_for about.now.sheet board.old.laid.shape name to) board.old.laid.table
+        (map (λ n. player_bound n) (below about.now.sheet.players)))) }
     ensures keeps { Keeps board.old board.new }
     ensures quiet { board.old.notes ≡ false → IsOk result }
 {
@@ -223,7 +235,9 @@ fn gather_one(
     board: &mut Board,
 ) -> Result<(), Memory>
     requires { HoldsCards board.old.laid.shape to }
-    ensures leads { OnOk result (board.new.laid ≡ relaid board.old.laid (gather_for about.now.sheet board.old.laid.shape name to board.old.laid.table (player_bound player))) }
+    ensures leads { OnOk result (board.new.laid
+        ≡ relaid board.old.laid (gather_for about.now.sheet board.old.laid.shape name to board.old.laid.table
+        (player_bound player))) }
     ensures keeps { Keeps board.old board.new }
     ensures quiet { board.old.notes ≡ false → IsOk result }
 {

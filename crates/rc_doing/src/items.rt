@@ -33,7 +33,8 @@ use rc_rules::{About, Dealer, Frames, Item};
 use rc_state::{Context, bare_bind_at, bind_of, member_at};
 use rc_value::{Bind, Bindings, Cards, Current};
 
-/// Does the effects of an item of a menu, with its variables bound, where it is known who is current. Their code is a block.
+/// Does the effects of an item of a menu, with its variables bound, where it is known who is current. Their code is a
+/// block.
 ///
 /// An alternative that isn't there has no effects, and a position that isn't there stands for player 0.
 #[tactic(auto, using(crate::proofs::ShuffleLemmas::not_shuffled))]
@@ -54,8 +55,10 @@ pub fn do_item<D: Dealer>(
     requires simple { AreSimple (list_seen block.now) }
     ensures does { OnOk result (let alt = alt_in alts.now item.now.alt in
         does about.now (D.dealing dealer.old)
-        (bindings_of (scene_at about.now board.old.laid.table (frames_seen frames.old.items)) [] alt item.now.spots.items) (effects_of alt)
-        (point_of board.old.laid frames.old.items (D.state dealer.old)) ≡ point_of board.new.laid frames.new.items (D.state dealer.new)) }
+        (bindings_of (scene_at about.now board.old.laid.table
+        (frames_seen frames.old.items)) [] alt item.now.spots.items) (effects_of alt)
+        (point_of board.old.laid frames.old.items (D.state dealer.old))
+        ≡ point_of board.new.laid frames.new.items (D.state dealer.new)) }
     ensures current { OnOk result (IsCurrent about.now.sheet (frames_seen frames.new.items) current) }
     ensures keeps { Keeps board.old board.new }
     ensures quiet { board.old.notes ≡ false → IsOk result }
@@ -100,9 +103,12 @@ fn do_here<D: Dealer>(
     requires block { effects_in (list_seen block.now) ≡ effects_of (alt_seen alt.now) }
     requires simple { AreSimple (list_seen block.now) }
     ensures does { OnOk result (does context.now.about.now (D.dealing dealer.old)
-        (bindings_of (scene_in context.now board.old.laid frames.old.items) context.now.scope.now (alt_seen alt.now) spots.now) (effects_of (alt_seen alt.now))
-        (point_of board.old.laid frames.old.items (D.state dealer.old)) ≡ point_of board.new.laid frames.new.items (D.state dealer.new)) }
-    ensures current { OnOk result (IsCurrent context.now.about.now.sheet (frames_seen frames.new.items) context.now.current) }
+        (bindings_of (scene_in context.now board.old.laid frames.old.items) context.now.scope.now
+        (alt_seen alt.now) spots.now) (effects_of (alt_seen alt.now))
+        (point_of board.old.laid frames.old.items (D.state dealer.old))
+        ≡ point_of board.new.laid frames.new.items (D.state dealer.new)) }
+    ensures current { OnOk result (IsCurrent context.now.about.now.sheet
+        (frames_seen frames.new.items) context.now.current) }
     ensures keeps { Keeps board.old board.new }
     ensures quiet { board.old.notes ≡ false → IsOk result }
     ensures shuffled { HasShuffled (D.dealing dealer.old) (D.state dealer.old) (D.state dealer.new) }
@@ -135,9 +141,12 @@ fn do_alt<D: Dealer>(
     requires block { effects_in (list_seen block.now) ≡ effects_of (alt_seen alt.now) }
     requires simple { AreSimple (list_seen block.now) }
     ensures does { OnOk result (does context.now.about.now (D.dealing dealer.old)
-        (bindings_of (scene_in context.now board.old.laid frames.old.items) context.now.scope.now (alt_seen alt.now) spots.now) (effects_of (alt_seen alt.now))
-        (point_of board.old.laid frames.old.items (D.state dealer.old)) ≡ point_of board.new.laid frames.new.items (D.state dealer.new)) }
-    ensures current { OnOk result (IsCurrent context.now.about.now.sheet (frames_seen frames.new.items) context.now.current) }
+        (bindings_of (scene_in context.now board.old.laid frames.old.items) context.now.scope.now
+        (alt_seen alt.now) spots.now) (effects_of (alt_seen alt.now))
+        (point_of board.old.laid frames.old.items (D.state dealer.old))
+        ≡ point_of board.new.laid frames.new.items (D.state dealer.new)) }
+    ensures current { OnOk result (IsCurrent context.now.about.now.sheet
+        (frames_seen frames.new.items) context.now.current) }
     ensures keeps { Keeps board.old board.new }
     ensures quiet { board.old.notes ≡ false → IsOk result }
     ensures shuffled { HasShuffled (D.dealing dealer.old) (D.state dealer.old) (D.state dealer.new) }
@@ -164,9 +173,12 @@ fn do_inner<D: Dealer>(
     requires block { effects_in (list_seen block.now) ≡ effects_of (alt_seen alt.now) }
     requires simple { AreSimple (list_seen block.now) }
     ensures does { OnOk result (does context.now.about.now (D.dealing dealer.old)
-        (bindings_of (scene_in context.now board.old.laid frames.old.items) context.now.scope.now (alt_seen alt.now) spots.now) (effects_of (alt_seen alt.now))
-        (point_of board.old.laid frames.old.items (D.state dealer.old)) ≡ point_of board.new.laid frames.new.items (D.state dealer.new)) }
-    ensures current { OnOk result (IsCurrent context.now.about.now.sheet (frames_seen frames.new.items) context.now.current) }
+        (bindings_of (scene_in context.now board.old.laid frames.old.items) context.now.scope.now
+        (alt_seen alt.now) spots.now) (effects_of (alt_seen alt.now))
+        (point_of board.old.laid frames.old.items (D.state dealer.old))
+        ≡ point_of board.new.laid frames.new.items (D.state dealer.new)) }
+    ensures current { OnOk result (IsCurrent context.now.about.now.sheet
+        (frames_seen frames.new.items) context.now.current) }
     ensures keeps { Keeps board.old board.new }
     ensures quiet { board.old.notes ≡ false → IsOk result }
     ensures shuffled { HasShuffled (D.dealing dealer.old) (D.state dealer.old) (D.state dealer.new) }
@@ -196,15 +208,19 @@ fn do_any<D: Dealer>(
     requires stands { Stands context.now board.old.laid frames.old.items }
     requires domain { IsDomainUnder context.now.about.now.sheet context.now.scope.now (domain_seen domain.now) }
     requires room { length context.now.scope.now < 5 }
-    requires well { (member : PureBind CardValue) → IsAltUnder context.now.about.now.sheet (context.now.scope.now ++ member ∷ []) (alt_seen inner.now) }
+    requires well { (member : PureBind CardValue)
+        → IsAltUnder context.now.about.now.sheet (context.now.scope.now ++ member ∷ []) (alt_seen inner.now) }
     requires bare { IsAltUnder context.now.about.now.sheet context.now.scope.now (alt_seen inner.now) }
     requires block { effects_in (list_seen block.now) ≡ effects_of (alt_seen inner.now) }
     requires simple { AreSimple (list_seen block.now) }
     ensures does { OnOk result (does context.now.about.now (D.dealing dealer.old)
-        (bindings_of (scene_in context.now board.old.laid frames.old.items) context.now.scope.now (any_alt (domain_seen domain.now) 0 (alt_seen inner.now)) spots.now)
+        (bindings_of (scene_in context.now board.old.laid frames.old.items) context.now.scope.now
+        (any_alt (domain_seen domain.now) 0 (alt_seen inner.now)) spots.now)
         (effects_of (alt_seen inner.now))
-        (point_of board.old.laid frames.old.items (D.state dealer.old)) ≡ point_of board.new.laid frames.new.items (D.state dealer.new)) }
-    ensures current { OnOk result (IsCurrent context.now.about.now.sheet (frames_seen frames.new.items) context.now.current) }
+        (point_of board.old.laid frames.old.items (D.state dealer.old))
+        ≡ point_of board.new.laid frames.new.items (D.state dealer.new)) }
+    ensures current { OnOk result (IsCurrent context.now.about.now.sheet
+        (frames_seen frames.new.items) context.now.current) }
     ensures keeps { Keeps board.old board.new }
     ensures quiet { board.old.notes ≡ false → IsOk result }
     ensures shuffled { HasShuffled (D.dealing dealer.old) (D.state dealer.old) (D.state dealer.new) }
@@ -239,14 +255,18 @@ fn do_member<D: Dealer>(
     requires stands { Stands context.now board.old.laid frames.old.items }
     requires domain { IsDomainUnder context.now.about.now.sheet context.now.scope.now (domain_seen domain.now) }
     requires room { length context.now.scope.now < 5 }
-    requires well { (member : PureBind CardValue) → IsAltUnder context.now.about.now.sheet (context.now.scope.now ++ member ∷ []) (alt_seen inner.now) }
+    requires well { (member : PureBind CardValue)
+        → IsAltUnder context.now.about.now.sheet (context.now.scope.now ++ member ∷ []) (alt_seen inner.now) }
     requires block { effects_in (list_seen block.now) ≡ effects_of (alt_seen inner.now) }
     requires simple { AreSimple (list_seen block.now) }
     ensures does { OnOk result (does context.now.about.now (D.dealing dealer.old)
-        (bindings_of (scene_in context.now board.old.laid frames.old.items) context.now.scope.now (any_alt (domain_seen domain.now) 0 (alt_seen inner.now)) (spot ∷ rest.now))
+        (bindings_of (scene_in context.now board.old.laid frames.old.items) context.now.scope.now
+        (any_alt (domain_seen domain.now) 0 (alt_seen inner.now)) (spot ∷ rest.now))
         (effects_of (alt_seen inner.now))
-        (point_of board.old.laid frames.old.items (D.state dealer.old)) ≡ point_of board.new.laid frames.new.items (D.state dealer.new)) }
-    ensures current { OnOk result (IsCurrent context.now.about.now.sheet (frames_seen frames.new.items) context.now.current) }
+        (point_of board.old.laid frames.old.items (D.state dealer.old))
+        ≡ point_of board.new.laid frames.new.items (D.state dealer.new)) }
+    ensures current { OnOk result (IsCurrent context.now.about.now.sheet
+        (frames_seen frames.new.items) context.now.current) }
     ensures keeps { Keeps board.old board.new }
     ensures quiet { board.old.notes ≡ false → IsOk result }
     ensures shuffled { HasShuffled (D.dealing dealer.old) (D.state dealer.old) (D.state dealer.new) }
@@ -275,14 +295,18 @@ fn do_bound<D: Dealer>(
     requires stands { Stands context.now board.old.laid frames.old.items }
     requires room { length context.now.scope.now < 5 }
     requires bind { IsBindOf context.now.about.now.shape (bind_seen bind) }
-    requires well { IsAltUnder context.now.about.now.sheet (context.now.scope.now ++ bind_seen bind ∷ []) (alt_seen alt.now) }
+    requires well { IsAltUnder context.now.about.now.sheet (context.now.scope.now ++ bind_seen bind ∷ [])
+        (alt_seen alt.now) }
     requires block { effects_in (list_seen block.now) ≡ effects_of (alt_seen alt.now) }
     requires simple { AreSimple (list_seen block.now) }
     ensures does { OnOk result (does context.now.about.now (D.dealing dealer.old)
-        (bindings_of (scene_in context.now board.old.laid frames.old.items) (context.now.scope.now ++ bind_seen bind.entry ∷ []) (alt_seen alt.now) spots.now)
+        (bindings_of (scene_in context.now board.old.laid frames.old.items)
+        (context.now.scope.now ++ bind_seen bind.entry ∷ []) (alt_seen alt.now) spots.now)
         (effects_of (alt_seen alt.now))
-        (point_of board.old.laid frames.old.items (D.state dealer.old)) ≡ point_of board.new.laid frames.new.items (D.state dealer.new)) }
-    ensures current { OnOk result (IsCurrent context.now.about.now.sheet (frames_seen frames.new.items) context.now.current) }
+        (point_of board.old.laid frames.old.items (D.state dealer.old))
+        ≡ point_of board.new.laid frames.new.items (D.state dealer.new)) }
+    ensures current { OnOk result (IsCurrent context.now.about.now.sheet
+        (frames_seen frames.new.items) context.now.current) }
     ensures keeps { Keeps board.old board.new }
     ensures quiet { board.old.notes ≡ false → IsOk result }
     ensures shuffled { HasShuffled (D.dealing dealer.old) (D.state dealer.old) (D.state dealer.new) }

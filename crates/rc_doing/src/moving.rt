@@ -39,8 +39,11 @@ pub fn move_one(
     frames: &Frames,
 ) -> Result<(), Memory>
     requires stands { Stands context.now board.old.laid frames.now.items }
-    requires well { IsEffectUnder context.now.about.now.sheet context.now.scope.now (move (card_seen card.now) (end_seen end) (loc_seen loc.now)) }
-    ensures leads { OnOk result (LeadsTo context.now (move (card_seen card.now) (end_seen end) (loc_seen loc.now)) board.old.laid frames.now.items board.new.laid frames.now.items) }
+    requires well { IsEffectUnder context.now.about.now.sheet context.now.scope.now
+        (move (card_seen card.now) (end_seen end) (loc_seen loc.now)) }
+    ensures leads { OnOk result (LeadsTo context.now
+        (move (card_seen card.now) (end_seen end)
+        (loc_seen loc.now)) board.old.laid frames.now.items board.new.laid frames.now.items) }
     ensures keeps { Keeps board.old board.new }
     ensures quiet { board.old.notes ≡ false → IsOk result }
 {
@@ -63,8 +66,11 @@ pub fn move_all(
     frames: &Frames,
 ) -> Result<(), Memory>
     requires stands { Stands context.now board.old.laid frames.now.items }
-    requires well { IsEffectUnder context.now.about.now.sheet context.now.scope.now (move_all_of (coll_seen cards.now) (end_seen end) (loc_seen loc.now)) }
-    ensures leads { OnOk result (LeadsTo context.now (move_all_of (coll_seen cards.now) (end_seen end) (loc_seen loc.now)) board.old.laid frames.now.items board.new.laid frames.now.items) }
+    requires well { IsEffectUnder context.now.about.now.sheet context.now.scope.now
+        (move_all_of (coll_seen cards.now) (end_seen end) (loc_seen loc.now)) }
+    ensures leads { OnOk result (LeadsTo context.now
+        (move_all_of (coll_seen cards.now) (end_seen end)
+        (loc_seen loc.now)) board.old.laid frames.now.items board.new.laid frames.now.items) }
     ensures keeps { Keeps board.old board.new }
     ensures quiet { board.old.notes ≡ false → IsOk result }
 {
@@ -90,8 +96,10 @@ fn put_some(
     requires stands { Stands context.now board.old.laid frames.now.items }
     requires well { IsCollUnder context.now.about.now.sheet context.now.scope.now (coll_seen cards.now) }
     requires holds { HoldsCards board.old.laid.shape at }
-    ensures leads { OnOk result (board.new.laid ≡ relaid board.old.laid (fold (move_card board.old.laid.shape (end_seen end) at) board.old.laid.table
-        (coll_value (scene_in context.now board.old.laid frames.now.items) context.now.scope.now (coll_seen cards.now)))) }
+    ensures leads { OnOk result (board.new.laid
+        ≡ relaid board.old.laid (fold (move_card board.old.laid.shape (end_seen end) at) board.old.laid.table
+        (coll_value (scene_in context.now board.old.laid frames.now.items) context.now.scope.now
+        (coll_seen cards.now)))) }
     ensures keeps { Keeps board.old board.new }
     ensures quiet { board.old.notes ≡ false → IsOk result }
 {
@@ -115,8 +123,10 @@ fn put_many(
     requires stands { Stands context.now board.old.laid frames.now.items }
     requires well { IsCollUnder context.now.about.now.sheet context.now.scope.now (coll_seen cards.now) }
     requires holds { HoldsCards board.old.laid.shape at }
-    ensures leads { OnOk result (board.new.laid ≡ relaid board.old.laid (fold (move_card board.old.laid.shape (end_seen end) at) board.old.laid.table
-        (coll_value (scene_in context.now board.old.laid frames.now.items) context.now.scope.now (coll_seen cards.now)))) }
+    ensures leads { OnOk result (board.new.laid
+        ≡ relaid board.old.laid (fold (move_card board.old.laid.shape (end_seen end) at) board.old.laid.table
+        (coll_value (scene_in context.now board.old.laid frames.now.items) context.now.scope.now
+        (coll_seen cards.now)))) }
     ensures keeps { Keeps board.old board.new }
     ensures quiet { board.old.notes ≡ false → IsOk result }
 {
@@ -196,7 +206,9 @@ fn put_one_by_one(board: &mut Board, cards: &[Card], end: End, at: u16) -> Resul
 fn put(board: &mut Board, card: Card, end: End, at: u16) -> Result<(), Memory>
     requires card { IsCardOf board.old.laid.shape (value_seen card) }
     requires holds { HoldsCards board.old.laid.shape at }
-    ensures leads { OnOk result (board.new.laid ≡ relaid board.old.laid (move_card board.old.laid.shape (end_seen end) at board.old.laid.table (value_seen card))) }
+    ensures leads { OnOk result (board.new.laid
+        ≡ relaid board.old.laid (move_card board.old.laid.shape (end_seen end) at board.old.laid.table
+        (value_seen card))) }
     ensures keeps { Keeps board.old board.new }
     ensures quiet { board.old.notes ≡ false → IsOk result }
 {

@@ -28,8 +28,11 @@ pub fn change_number(
     frames: &Frames,
 ) -> Result<(), Memory>
     requires stands { Stands context.now board.old.laid frames.now.items }
-    requires well { IsEffectUnder context.now.about.now.sheet context.now.scope.now (effect_by how (num_seen num.now) (int_seen value.now)) }
-    ensures leads { OnOk result (LeadsTo context.now (effect_by how (num_seen num.now) (int_seen value.now)) board.old.laid frames.now.items board.new.laid frames.now.items) }
+    requires well { IsEffectUnder context.now.about.now.sheet context.now.scope.now
+        (effect_by how (num_seen num.now) (int_seen value.now)) }
+    ensures leads { OnOk result (LeadsTo context.now
+        (effect_by how (num_seen num.now)
+        (int_seen value.now)) board.old.laid frames.now.items board.new.laid frames.now.items) }
     ensures keeps { Keeps board.old board.new }
     ensures quiet { board.old.notes ≡ false → IsOk result }
 {
@@ -46,8 +49,11 @@ pub fn set_number(
     frames: &Frames,
 ) -> Result<(), Memory>
     requires stands { Stands context.now board.old.laid frames.now.items }
-    requires well { IsEffectUnder context.now.about.now.sheet context.now.scope.now (effect_by Set (num_seen num.now) (int_seen value.now)) }
-    ensures leads { OnOk result (LeadsTo context.now (effect_by Set (num_seen num.now) (int_seen value.now)) board.old.laid frames.now.items board.new.laid frames.now.items) }
+    requires well { IsEffectUnder context.now.about.now.sheet context.now.scope.now
+        (effect_by Set (num_seen num.now) (int_seen value.now)) }
+    ensures leads { OnOk result (LeadsTo context.now
+        (effect_by Set (num_seen num.now)
+        (int_seen value.now)) board.old.laid frames.now.items board.new.laid frames.now.items) }
     ensures keeps { Keeps board.old board.new }
     ensures quiet { board.old.notes ≡ false → IsOk result }
 {
@@ -68,8 +74,11 @@ fn change(
     frames: &Frames,
 ) -> Result<(), Memory>
     requires stands { Stands context.now board.old.laid frames.now.items }
-    requires well { IsEffectUnder context.now.about.now.sheet context.now.scope.now (effect_by how (num_seen num.now) (int_seen value.now)) }
-    ensures leads { OnOk result (LeadsTo context.now (effect_by how (num_seen num.now) (int_seen value.now)) board.old.laid frames.now.items board.new.laid frames.now.items) }
+    requires well { IsEffectUnder context.now.about.now.sheet context.now.scope.now
+        (effect_by how (num_seen num.now) (int_seen value.now)) }
+    ensures leads { OnOk result (LeadsTo context.now
+        (effect_by how (num_seen num.now)
+        (int_seen value.now)) board.old.laid frames.now.items board.new.laid frames.now.items) }
     ensures keeps { Keeps board.old board.new }
     ensures quiet { board.old.notes ≡ false → IsOk result }
 {
@@ -88,7 +97,8 @@ fn change(
 #[inline(always)]
 pub fn change_at(board: &mut Board, at: u16, how: Change, value: i64) -> Result<(), Memory>
     requires clamped { IsWithinClamp value }
-    ensures leads { OnOk result (board.new.laid ≡ relaid board.old.laid (effects.change (new_by how) value at board.old.laid.table)) }
+    ensures leads { OnOk result (board.new.laid
+        ≡ relaid board.old.laid (effects.change (new_by how) value at board.old.laid.table)) }
     ensures keeps { Keeps board.old board.new }
     ensures quiet { board.old.notes ≡ false → IsOk result }
 {

@@ -31,8 +31,11 @@ pub fn remember(
     frames: &Frames,
 ) -> Result<(), Memory>
     requires stands { Stands context.now board.old.laid frames.now.items }
-    requires well { IsEffectUnder context.now.about.now.sheet context.now.scope.now (remember_of (card_seen card.now) (end_seen end) (loc_seen loc.now)) }
-    ensures leads { OnOk result (LeadsTo context.now (remember_of (card_seen card.now) (end_seen end) (loc_seen loc.now)) board.old.laid frames.now.items board.new.laid frames.now.items) }
+    requires well { IsEffectUnder context.now.about.now.sheet context.now.scope.now
+        (remember_of (card_seen card.now) (end_seen end) (loc_seen loc.now)) }
+    ensures leads { OnOk result (LeadsTo context.now
+        (remember_of (card_seen card.now) (end_seen end)
+        (loc_seen loc.now)) board.old.laid frames.now.items board.new.laid frames.now.items) }
     ensures keeps { Keeps board.old board.new }
     ensures quiet { board.old.notes ≡ false → IsOk result }
 {
@@ -48,7 +51,8 @@ pub fn remember(
 fn note(board: &mut Board, id: u16, end: End, at: u16) -> Result<(), Memory>
     requires card { id < length board.old.laid.shape.faces }
     requires holds { HoldsReferences board.old.laid.shape at }
-    ensures leads { OnOk result (board.new.laid ≡ relaid board.old.laid (noted_at board.old.laid.shape (end_seen end) id at board.old.laid.table)) }
+    ensures leads { OnOk result (board.new.laid
+        ≡ relaid board.old.laid (noted_at board.old.laid.shape (end_seen end) id at board.old.laid.table)) }
     ensures keeps { Keeps board.old board.new }
     ensures quiet { board.old.notes ≡ false → IsOk result }
 {
@@ -76,7 +80,8 @@ pub fn forget(
 ) -> Result<(), Memory>
     requires stands { Stands context.now board.old.laid frames.now.items }
     requires well { IsEffectUnder context.now.about.now.sheet context.now.scope.now (forget_of (card_seen card.now)) }
-    ensures leads { OnOk result (LeadsTo context.now (forget_of (card_seen card.now)) board.old.laid frames.now.items board.new.laid frames.now.items) }
+    ensures leads { OnOk result (LeadsTo context.now
+        (forget_of (card_seen card.now)) board.old.laid frames.now.items board.new.laid frames.now.items) }
     ensures keeps { Keeps board.old board.new }
     ensures quiet { board.old.notes ≡ false → IsOk result }
 {
@@ -88,7 +93,8 @@ pub fn forget(
 
 fn forget_one(board: &mut Board, card: Card) -> Result<(), Memory>
     requires card { IsCardOf board.old.laid.shape (value_seen card) }
-    ensures leads { OnOk result (board.new.laid ≡ relaid board.old.laid (forget_card board.old.laid.shape (value_seen card) board.old.laid.table)) }
+    ensures leads { OnOk result (board.new.laid
+        ≡ relaid board.old.laid (forget_card board.old.laid.shape (value_seen card) board.old.laid.table)) }
     ensures keeps { Keeps board.old board.new }
     ensures quiet { board.old.notes ≡ false → IsOk result }
 {

@@ -29,8 +29,10 @@ pub fn shuffle<D: Dealer>(
 ) -> Result<(), Memory>
     requires stands { Stands context.now board.old.laid frames.now.items }
     requires well { IsEffectUnder context.now.about.now.sheet context.now.scope.now (shuffle_of (loc_seen loc.now)) }
-    ensures does { OnOk result (does_one context.now.about.now (D.dealing dealer.old) context.now.scope.now (shuffle_of (loc_seen loc.now))
-        (point_of board.old.laid frames.now.items (D.state dealer.old)) ≡ point_of board.new.laid frames.now.items (D.state dealer.new)) }
+    ensures does { OnOk result (does_one context.now.about.now (D.dealing dealer.old) context.now.scope.now
+        (shuffle_of (loc_seen loc.now))
+        (point_of board.old.laid frames.now.items (D.state dealer.old))
+        ≡ point_of board.new.laid frames.now.items (D.state dealer.new)) }
     ensures keeps { Keeps board.old board.new }
     ensures quiet { board.old.notes ≡ false → IsOk result }
     ensures shuffled { HasShuffled (D.dealing dealer.old) (D.state dealer.old) (D.state dealer.new) }
@@ -45,10 +47,14 @@ pub fn shuffle<D: Dealer>(
 #[tactic(auto, using(crate::proofs::ShuffleLemmas::not_shuffled, crate::proofs::ShuffleLemmas::one_shuffle))]
 fn shuffle_at<D: Dealer>(board: &mut Board, at: u16, dealer: &mut D) -> Result<(), Memory>
     requires there { at < length board.old.laid.shape.places }
-    ensures table { OnOk result (board.new.laid ≡ relaid board.old.laid (reorder at ((D.dealing dealer.old).order (D.state dealer.old) (length (list_at board.old.laid.table at))) board.old.laid.table)) }
+    ensures table { OnOk result (board.new.laid
+        ≡ relaid board.old.laid (reorder at
+        ((D.dealing dealer.old).order (D.state dealer.old)
+        (length (list_at board.old.laid.table at))) board.old.laid.table)) }
     ensures keeps { Keeps board.old board.new }
     ensures quiet { board.old.notes ≡ false → IsOk result }
-    ensures next { D.state dealer.new ≡ (D.dealing dealer.old).next (D.state dealer.old) (length (list_at board.old.laid.table at)) }
+    ensures next { D.state dealer.new
+        ≡ (D.dealing dealer.old).next (D.state dealer.old) (length (list_at board.old.laid.table at)) }
     ensures shuffled { HasShuffled (D.dealing dealer.old) (D.state dealer.old) (D.state dealer.new) }
     ensures dealing { D.dealing dealer.new ≡ D.dealing dealer.old }
 {

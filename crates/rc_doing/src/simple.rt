@@ -33,8 +33,10 @@ pub fn do_simple<D: Dealer>(
     requires stands { Stands context.now board.old.laid frames.old.items }
     requires well { IsEffectUnder context.now.about.now.sheet context.now.scope.now (effect_seen effect.now) }
     requires simple { HoldsNone (effect_seen effect.now) }
-    ensures does { OnOk result (does_one context.now.about.now (D.dealing dealer.old) context.now.scope.now (effect_seen effect.now)
-        (point_of board.old.laid frames.old.items (D.state dealer.old)) ≡ point_of board.new.laid frames.new.items (D.state dealer.new)) }
+    ensures does { OnOk result (does_one context.now.about.now (D.dealing dealer.old) context.now.scope.now
+        (effect_seen effect.now)
+        (point_of board.old.laid frames.old.items (D.state dealer.old))
+        ≡ point_of board.new.laid frames.new.items (D.state dealer.new)) }
     ensures stands { OnOk result (Stands context.now board.new.laid frames.new.items) }
     ensures keeps { Keeps board.old board.new }
     ensures quiet { board.old.notes ≡ false → IsOk result }

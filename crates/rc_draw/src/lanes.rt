@@ -133,8 +133,8 @@ fn initial_states(key: &[u32; 8]) -> [u32x4; 16]
     ]
 }
 
-/// The first words of four keys of ChaCha8 that differ in their seventh word alone. It is that of the given key in the first lane, and
-/// one more in each next one, modulo 2^32.
+/// The first words of four keys of ChaCha8 that differ in their seventh word alone. It is that of the given key in the
+/// first lane, and one more in each next one, modulo 2^32.
 pub(crate) fn first_words(key: &[u32; 8]) -> [u32; 4]
     ensures { (j : ℕ) → j < 4 → slice_index result j ≡ word_at 4 (neighbour key.now j) 0 0 }
 {

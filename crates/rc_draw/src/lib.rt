@@ -1,7 +1,7 @@
 //! Draws: keys made of four numbers, and the picks and the shuffles that a key decides.
 //!
-//! A key has a sequence of words of 32 bits, those of the generator ChaCha8. What is drawn by a key depends on the key alone. Of
-//! numbered keys the words are generated four at a time, side by side in the lanes of vectors.
+//! A key has a sequence of words of 32 bits, those of the generator ChaCha8. What is drawn by a key depends on the key
+//! alone. Of numbered keys the words are generated four at a time, side by side in the lanes of vectors.
 #![tactic(auto)]
 
 mod lanes;
@@ -59,8 +59,8 @@ pub fn pick_by(key: &[u8; 32], n: u32) -> u32
     scaled(first_word(key), n)
 }
 
-/// Puts a list of at most 512 items into the order of a key. From the last place down to the second, each takes what stands at
-/// a place up to it by the key's next word, and gives what it had. A list of fewer than two items stays.
+/// Puts a list of at most 512 items into the order of a key. From the last place down to the second, each takes what
+/// stands at a place up to it by the key's next word, and gives what it had. A list of fewer than two items stays.
 pub fn shuffle_by(key: &[u8; 32], list: &mut [u16])
     requires { length list.old ≤ most_cards }
     ensures order { list.new ≡ draws.permuted key.now list.old }

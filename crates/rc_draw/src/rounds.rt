@@ -55,7 +55,8 @@ pub(crate) fn column_round(rows: StateRows) -> StateRows
 // A vector with its words turned to the left by one place.
 #[inline(always)]
 fn left_by_one(vector: u32x4) -> u32x4
-    ensures { words_of result ≡ (slice_index vector 1, slice_index vector 2, slice_index vector 3, slice_index vector 0) }
+    ensures { words_of result
+        ≡ (slice_index vector 1, slice_index vector 2, slice_index vector 3, slice_index vector 0) }
 {
     vector.swizzle([1, 2, 3, 0])
 }
@@ -63,7 +64,8 @@ fn left_by_one(vector: u32x4) -> u32x4
 // By two places.
 #[inline(always)]
 fn left_by_two(vector: u32x4) -> u32x4
-    ensures { words_of result ≡ (slice_index vector 2, slice_index vector 3, slice_index vector 0, slice_index vector 1) }
+    ensures { words_of result
+        ≡ (slice_index vector 2, slice_index vector 3, slice_index vector 0, slice_index vector 1) }
 {
     vector.swizzle([2, 3, 0, 1])
 }
@@ -71,12 +73,14 @@ fn left_by_two(vector: u32x4) -> u32x4
 // By three places.
 #[inline(always)]
 fn left_by_three(vector: u32x4) -> u32x4
-    ensures { words_of result ≡ (slice_index vector 3, slice_index vector 0, slice_index vector 1, slice_index vector 2) }
+    ensures { words_of result
+        ≡ (slice_index vector 3, slice_index vector 0, slice_index vector 1, slice_index vector 2) }
 {
     vector.swizzle([3, 0, 1, 2])
 }
 
-/// The quarter round on each diagonal of a state: the rows are turned so that the diagonals stand in columns, and turned back.
+/// The quarter round on each diagonal of a state: the rows are turned so that the diagonals stand in columns, and
+/// turned back.
 #[inline(always)]
 pub(crate) fn diagonal_round(rows: StateRows) -> StateRows
     ensures { state_of result ≡ diagonal_round (state_of rows) }

@@ -8,8 +8,9 @@ use crate::word::WORDS;
 use rc_play_model::keys_pick_and_permute;
 use std::marker::Model;
 
-/// The keys of four numbers whose last has a given upper half. Its lower half numbers them. The first words of four keys with
-/// numbers in a row are generated together and kept, since most picks are by the number behind that of the last pick.
+/// The keys of four numbers whose last has a given upper half. Its lower half numbers them. The first words of four
+/// keys with numbers in a row are generated together and kept, since most picks are by the number behind that of the
+/// last pick.
 #[derive(Debug, Drop)]
 pub struct KeySeries {
     a: u64,
@@ -49,7 +50,8 @@ impl KeySeries {
         }
     }
 
-    /// The pick below n of the key of this number, by its first word. Below 1 it is 0 whatever the word, and none is generated.
+    /// The pick below n of the key of this number, by its first word. Below 1 it is 0 whatever the word, and none is
+    /// generated.
     pub fn pick(&mut self, number: u32, n: u32) -> u32
         requires { 0 < n }
         ensures value { result ≡ draws.pick_of (key_at self.old number) n }

@@ -13,7 +13,8 @@ use std::simd::u32x4;
 /// How many words there are.
 pub(crate) const WORDS: u64 = 1 << 32;
 
-/// The first word of a key. The generator makes four blocks of words at a time, and this makes no more than this word takes.
+/// The first word of a key. The generator makes four blocks of words at a time, and this makes no more than this word
+/// takes.
 pub(crate) fn first_word(key: &[u8; 32]) -> u32
     ensures { result ≡ draws.word_of key.now 0 }
 {

@@ -8,8 +8,8 @@ use std::marker::Model;
 
 /// The first entry of each key, in the order in which they came. Contracts see the list of them.
 ///
-/// A look-up takes time logarithmic in their number. A table of hashes would be quicker where keys are many, but whoever
-/// chooses the keys of a text can have them all hash alike.
+/// A look-up takes time logarithmic in their number. A table of hashes would be quicker where keys are many, but
+/// whoever chooses the keys of a text can have them all hash alike.
 pub struct Firsts<K: Ord, V> {
     entries: Vec<(K, V)>,
     keys: BTreeSet<K>,

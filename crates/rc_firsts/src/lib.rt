@@ -1,5 +1,5 @@
-//! The first entry of each key, found by an ordered index: the time of a look-up is logarithmic in the number of keys, whatever
-//! keys they are.
+//! The first entry of each key, found by an ordered index: the time of a look-up is logarithmic in the number of keys,
+//! whatever keys they are.
 #![tactic(auto)]
 
 mod firsts;

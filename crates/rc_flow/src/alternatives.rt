@@ -20,7 +20,8 @@ fn in_alt(names: &[LocName], alt: &Alt, found: Option<u32>) -> Option<u32>
 }
 
 fn in_alts(names: &[LocName], alts: &Vec<Alt>, found: Option<u32>) -> Option<u32>
-    ensures { result ≡ least_with (map loc_name_seen names.now) found (flat_map locs_in_alt (alts_seen alts.now.items)) }
+    ensures { result ≡ least_with (map loc_name_seen names.now) found
+        (flat_map locs_in_alt (alts_seen alts.now.items)) }
 {
     let mut least = found;
     for alt in alts {

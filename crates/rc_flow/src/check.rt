@@ -55,8 +55,8 @@ pub struct Unseen {
     pub sheet: Sheet,
 }
 
-/// The sheet, where it keeps the sight rule; else it comes back with the first location that breaks the rule. It takes no
-/// memory.
+/// The sheet, where it keeps the sight rule; else it comes back with the first location that breaks the rule. It takes
+/// no memory.
 pub fn check_sight(sheet: Sheet) -> Result<Checked, Unseen>
     requires well { IsWellFormed (sheet_seen sheet) }
     ensures sight { IfOk result (λ _. IsInSight (sheet_seen sheet)) }

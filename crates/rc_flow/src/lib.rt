@@ -1,9 +1,9 @@
-//! What expressions read: the sight rule, by which what a choice offers depends on nothing that its mover doesn't see; and which variables
-//! an expression reads.
+//! What expressions read: the sight rule, by which what a choice offers depends on nothing that its mover doesn't see;
+//! and which variables an expression reads.
 //!
-//! A location in a guard or a domain of a choice is a `vloc` or a `mem`, or an `iloc` of the mover or of the mover's team;
-//! but `size` may ask for the length of any location. [`check_sight`] takes a sheet that keeps the rule, and refuses
-//! another one at the first location that breaks it.
+//! A location in a guard or a domain of a choice is a `vloc` or a `mem`, or an `iloc` of the mover or of the mover's
+//! team; but `size` may ask for the length of any location. [`check_sight`] takes a sheet that keeps the rule, and
+//! refuses another one at the first location that breaks it.
 #![tactic(auto)]
 
 mod alternatives;

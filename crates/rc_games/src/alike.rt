@@ -93,8 +93,9 @@ pub fn expect_same_scores<T: Machine, F: Machine>(tree: &T, other: &F) -> Result
     }
 }
 
-/// Plays a record's picks once more, on the tree machine and on flat machines, of which one notes nothing, as matches are played, and one
-/// notes its edits. Fails unless all come to the stops that the record tells, and have the same tables, controls, menus and scores there.
+/// Plays a record's picks once more, on the tree machine and on flat machines, of which one notes nothing, as matches
+/// are played, and one notes its edits. Fails unless all come to the stops that the record tells, and have the same
+/// tables, controls, menus and scores there.
 pub fn replay(alloc: Global, game: &Game, played: &MatchRecord) -> Result<(), Stray>
     requires { StandsFor game.now.about.value.sheet (code_seen game.now.code.value) }
 {
@@ -129,8 +130,10 @@ fn stop_both<T: Machine, F: Machine>(
     other: &mut F,
     dealers: &mut Dealers,
 ) -> Result<Stop, Stray>
-    requires { AreAlike (T.about tree.old) (F.about other.old) (T.config tree.old) (F.config other.old) dealers.old.tree dealers.old.other }
-    ensures alike { OnOk result (AreAlike (T.about tree.new) (F.about other.new) (T.config tree.new) (F.config other.new) dealers.new.tree dealers.new.other) }
+    requires { AreAlike (T.about tree.old) (F.about other.old) (T.config tree.old)
+        (F.config other.old) dealers.old.tree dealers.old.other }
+    ensures alike { OnOk result (AreAlike (T.about tree.new) (F.about other.new) (T.config tree.new)
+        (F.config other.new) dealers.new.tree dealers.new.other) }
     ensures stands { IfOk result (λ stop. StandsWhereItStops (T.about tree.new) (stop_seen stop) (T.config tree.new)) }
     ensures fresh { OnOk result (T.spent tree.new ≡ false) }
     ensures other_fresh { OnOk result (F.spent other.new ≡ false) }
@@ -147,8 +150,10 @@ fn pick_on_both<T: Machine, F: Machine>(
     dealers: &mut Dealers,
     pick: &Pick,
 ) -> Result<(), Stray>
-    requires { AreAlike (T.about tree.old) (F.about other.old) (T.config tree.old) (F.config other.old) dealers.old.tree dealers.old.other }
-    ensures { OnOk result (AreAlike (T.about tree.new) (F.about other.new) (T.config tree.new) (F.config other.new) dealers.new.tree dealers.new.other) }
+    requires { AreAlike (T.about tree.old) (F.about other.old) (T.config tree.old)
+        (F.config other.old) dealers.old.tree dealers.old.other }
+    ensures { OnOk result (AreAlike (T.about tree.new) (F.about other.new) (T.config tree.new)
+        (F.config other.new) dealers.new.tree dealers.new.other) }
 {
     match stop_both(tree, other, dealers)? {
         Stop::Decide { seat, site } => {
@@ -170,8 +175,10 @@ fn take_on_both<T: Machine, F: Machine>(
     requires tree { T.spent tree.old ≡ false }
     requires other { F.spent other.old ≡ false }
     requires decides { StandsAtDecision (T.about tree.old) (T.config tree.old) }
-    requires alike { AreAlike (T.about tree.old) (F.about other.old) (T.config tree.old) (F.config other.old) dealers.old.tree dealers.old.other }
-    ensures { OnOk result (AreAlike (T.about tree.new) (F.about other.new) (T.config tree.new) (F.config other.new) dealers.new.tree dealers.new.other) }
+    requires alike { AreAlike (T.about tree.old) (F.about other.old) (T.config tree.old)
+        (F.config other.old) dealers.old.tree dealers.old.other }
+    ensures { OnOk result (AreAlike (T.about tree.new) (F.about other.new) (T.config tree.new)
+        (F.config other.new) dealers.new.tree dealers.new.other) }
 {
     let size = items_of_both(tree, other)?;
     if size != usize::from(pick.size) || usize::from(pick.item) >= size {
@@ -193,7 +200,8 @@ fn end_both<T: Machine, F: Machine>(
     dealers: &mut Dealers,
     played: &MatchRecord,
 ) -> Result<(), Stray>
-    requires { AreAlike (T.about tree.old) (F.about other.old) (T.config tree.old) (F.config other.old) dealers.old.tree dealers.old.other }
+    requires { AreAlike (T.about tree.old) (F.about other.old) (T.config tree.old)
+        (F.config other.old) dealers.old.tree dealers.old.other }
 {
     let stop = stop_both(tree, other, dealers)?;
     expect_same_scores(tree, other)?;

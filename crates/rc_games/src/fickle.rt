@@ -16,8 +16,8 @@ use std::alloc::Global;
 use std::marker::Model;
 use std::sync::Arc;
 
-/// Keeps entries of one about, and loses all of them at the looks that a list names, which are numbered from 0. It doesn't tell its
-/// calls.
+/// Keeps entries of one about, and loses all of them at the looks that a list names, which are numbered from 0. It
+/// doesn't tell its calls.
 #[derive(Drop)]
 pub struct Fickle {
     about: Arc<About>,
@@ -140,7 +140,8 @@ impl Memo for Fickle {
 // What entries of one about answer to a key of it.
 fn found(alloc: Global, entries: &[Entry], key: &Key) -> Result<Reply, Memory>
     requires { AllByRecursion (λ entry. entry.about ≡ (key_seen key.now).about) entries.now }
-    ensures { IfOk result (λ reply. IfHit reply (λ totals. totals ≡ tally_of (key_seen key.now).about (key_seen key.now).ask)) }
+    ensures { IfOk result (λ reply. IfHit reply
+        (λ totals. totals ≡ tally_of (key_seen key.now).about (key_seen key.now).ask)) }
 {
     for at in 0..entries.len() {
         if same_ask(&key.ask, &entries[at].key().ask) {

@@ -1,8 +1,8 @@
 //! The largest sheet: 512 cards, 256 locations and 256 numbers, and in a match as many references as there may be.
 use std::alloc::{AllocError, Global};
 
-/// 8 locations of the game, of which STOCK has 16 times 32 cards and ROWS and COLUMNS a reference to each of them, and the first of
-/// the numbers that each player has.
+/// 8 locations of the game, of which STOCK has 16 times 32 cards and ROWS and COLUMNS a reference to each of them, and
+/// the first of the numbers that each player has.
 const BEGINNING: &[u8] = b"\
 (game
 (setup (create players 8)

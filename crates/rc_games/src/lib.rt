@@ -1,5 +1,5 @@
-//! Games that tests play, and what watches their matches: their texts, what matches of them share, two machines side by side, playouts
-//! that go back, and a memo that forgets.
+//! Games that tests play, and what watches their matches: their texts, what matches of them share, two machines side by
+//! side, playouts that go back, and a memo that forgets.
 #![tactic(auto)]
 
 mod alike;

@@ -57,7 +57,8 @@ impl<O: Observer> Observed<O> {
 }
 
 impl<O: Observer> Chooser for Observed<O> {
-    ghost serves = { λ o about. StandsFor about.sheet (code_seen o.choices.code.value) × StandsFor about.sheet (code_seen o.code.value) };
+    ghost serves = { λ o about. StandsFor about.sheet (code_seen o.choices.code.value)
+        × StandsFor about.sheet (code_seen o.code.value) };
 
     ghost counts = { λ o. counts_of o.choices.memo };
 

@@ -11,8 +11,8 @@ pub struct Rollout {
     pub key: u64,
 }
 
-/// What all seats pick in the playout of an item in a round: by keys of the seat that rolls out, which are numbered by the picks and
-/// shuffles of this playout.
+/// What all seats pick in the playout of an item in a round: by keys of the seat that rolls out, which are numbered by
+/// the picks and shuffles of this playout.
 #[derive(Clone, Copy)]
 pub struct Picks {
     key: u64,

@@ -29,8 +29,9 @@ pub struct Playouts {
     pub shuffles: u32,
 }
 
-/// Makes the playouts of each rollout that it sees, from the redrawn table of each round: on a machine that goes home, side by side
-/// with the tree machine, and on one that goes back to a mark. Behind each playout they are to stand at the decision again.
+/// Makes the playouts of each rollout that it sees, from the redrawn table of each round: on a machine that goes home,
+/// side by side with the tree machine, and on one that goes back to a mark. Behind each playout they are to stand at
+/// the decision again.
 #[derive(Drop)]
 pub struct Returns {
     seen: Result<Playouts, Stray>,
@@ -155,7 +156,8 @@ fn first_menu(tree: &mut PlainMachine) -> Result<Menu, Stray>
     }
 }
 
-/// Plays out an item on the tree machine and on the machine that is at home, side by side, and goes home. How often they shuffled.
+/// Plays out an item on the tree machine and on the machine that is at home, side by side, and goes home. How often
+/// they shuffled.
 fn comes_home(
     there: &There<'_>,
     item: u16,

@@ -13,8 +13,8 @@ pub const GAME: &[u8] = b"\
 (scoring max (sum ('SELF vloc PLAYED) using WORTH)))
 ";
 
-/// Three seats with a card each, of which the last one's has the face of the open card. At the second choice of a turn the inner
-/// stage goes backward, and its member to come is named.
+/// Three seats with a card each, of which the last one's has the face of the open card. At the second choice of a turn
+/// the inner stage goes backward, and its member to come is named.
 pub const OPEN_CARD: &[u8] = b"\
 (game
 (setup (create players 3)
@@ -39,8 +39,8 @@ pub const ROWS: &[u8] = b"\
 (do (shuffle (game vloc FIRST)) (shuffle (game vloc SECOND)))
 (scoring max 0))";
 
-/// Two seats with two cards each, two open cards that are remembered, and two of the four others laid on a pile. The ten cards are
-/// numbered in the order of the deck, so the numbers of their faces are 0, 1, 1, 3, 1, 3, 6, 0, 6 and 3.
+/// Two seats with two cards each, two open cards that are remembered, and two of the four others laid on a pile. The
+/// ten cards are numbered in the order of the deck, so the numbers of their faces are 0, 1, 1, 3, 1, 3, 6, 0, 6 and 3.
 pub const PILES: &[u8] = b"\
 (game
 (setup (create players 2)
@@ -79,7 +79,8 @@ pub const DRAWS: &[u8] = b"\
   (scoring max (sum ('SELF vloc PLAYED) using WORTH)))
 ";
 
-/// `examples/magpie.sheet`, without its comments: cards have to fit, or the stage goes the other way round, and players draw or pass.
+/// `examples/magpie.sheet`, without its comments: cards have to fit, or the stage goes the other way round, and players
+/// draw or pass.
 pub const MAGPIE: &[u8] = b"\
 (game
   (setup
@@ -119,8 +120,8 @@ pub const MAGPIE: &[u8] = b"\
   (scoring min (sum ('SELF iloc HAND) using LEFT)))
 ";
 
-/// `examples/staircase.sheet`, without its comments: a patience with filters over four rows, a number that is set anew in each round, and a
-/// second item for the stock.
+/// `examples/staircase.sheet`, without its comments: a patience with filters over four rows, a number that is set anew
+/// in each round, and a second item for the stock.
 pub const STAIRCASE: &[u8] = b"\
 (game
   (setup

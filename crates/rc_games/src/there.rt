@@ -24,7 +24,8 @@ use std::sync::Arc;
 pub fn redrawn(alloc: Global, need: &Need, key: u64, round: u16) -> Result<Table, Memory>
     requires { IsNeed (need_seen need.now) }
     ensures laid { IfOk result (λ table. table.shape ≡ (need_seen need.now).about.shape) }
-    ensures decides { IfOk result (λ table. CanDecide (need_seen need.now).about table.table (need_seen need.now).view.control) }
+    ensures decides { IfOk result (λ table. CanDecide (need_seen need.now).about table.table
+        (need_seen need.now).view.control) }
 {
     menu_sizes_are_functions_of_views();
     // what an about keeps

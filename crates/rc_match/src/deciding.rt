@@ -23,8 +23,8 @@ use rc_steps::Steps;
 use std::alloc::Global;
 use std::sync::ledger::Ledger;
 
-/// The item that is picked at a decision, and nothing at an end, where the record is completed. What the item binds is noted, where
-/// that is asked for.
+/// The item that is picked at a decision, and nothing at an end, where the record is completed. What the item binds is
+/// noted, where that is asked for.
 pub(crate) fn picked_at<M: Machine, C: Chooser, L: Ledger>(
     alloc: Global,
     job: &Job,
@@ -42,20 +42,26 @@ pub(crate) fn picked_at<M: Machine, C: Chooser, L: Ledger>(
     requires about { M.about machine.now ≡ job.now.about.value }
     requires fresh { M.spent machine.now ≡ false }
     requires stands { StandsWhereItStops job.now.about.value (stop_seen stop) (M.config machine.now) }
-    requires plays { mover job.now.about.value.sheet (M.config machine.now).control.frames < job.now.about.value.sheet.players }
+    requires plays { mover job.now.about.value.sheet (M.config machine.now).control.frames
+        < job.now.about.value.sheet.players }
     requires asks { IsChoice (C.serves chooser.old)
-        (phase_at job.now.about.value (plan_seen job.now.plan.value) job.now.number (stop_seen stop) (M.config machine.now)) }
+        (phase_at job.now.about.value (plan_seen job.now.plan.value) job.now.number (stop_seen stop)
+        (M.config machine.now)) }
     ensures is { IfOk result (λ pick. Chosen
-        (phase_at job.now.about.value (plan_seen job.now.plan.value) job.now.number (stop_seen stop) (M.config machine.now)) pick) }
+        (phase_at job.now.about.value (plan_seen job.now.plan.value) job.now.number (stop_seen stop)
+        (M.config machine.now)) pick) }
     ensures notes { OnOk result (record_seen notes.new
-        ≡ notes_at job.now.about.value (record_seen notes.old) (stop_seen stop) (M.config machine.now) dealer.now.count) }
+        ≡ notes_at job.now.about.value (record_seen notes.old) (stop_seen stop)
+        (M.config machine.now) dealer.now.count) }
     ensures bounds { IfOk result (λ pick. match_bounds bounds.new
         ≡ match_bounds bounds.old ++ noted_here noted job.now.about.value (M.config machine.now) pick) }
     ensures asked { OnOk result (AsksAll
-        (asked_at (phase_at job.now.about.value (plan_seen job.now.plan.value) job.now.number (stop_seen stop) (M.config machine.now)))
+        (asked_at (phase_at job.now.about.value (plan_seen job.now.plan.value) job.now.number (stop_seen stop)
+        (M.config machine.now)))
         (C.counts chooser.old) (C.counts chooser.new) steps.old steps.new) }
     ensures lacking { OnErr result (AsksSome
-        (asked_at (phase_at job.now.about.value (plan_seen job.now.plan.value) job.now.number (stop_seen stop) (M.config machine.now)))
+        (asked_at (phase_at job.now.about.value (plan_seen job.now.plan.value) job.now.number (stop_seen stop)
+        (M.config machine.now)))
         (C.counts chooser.old) (C.counts chooser.new) steps.old steps.new) }
     ensures same { (about : PureAbout) → C.serves chooser.old about → C.serves chooser.new about }
     ensures named { C.name chooser.new ≡ C.name chooser.old }
@@ -97,8 +103,8 @@ fn note<M: Machine>(
     Ok(())
 }
 
-// The item that the strategy of the seat that decides chooses. The chooser is asked where the strategy is a rollout. What others pick
-// is taken at once, since for them no view has to be made.
+// The item that the strategy of the seat that decides chooses. The chooser is asked where the strategy is a rollout.
+// What others pick is taken at once, since for them no view has to be made.
 fn item_of<M: Machine, C: Chooser, L: Ledger>(
     alloc: Global,
     job: &Job,
@@ -114,14 +120,18 @@ fn item_of<M: Machine, C: Chooser, L: Ledger>(
     requires decides { StandsAtDecision job.now.about.value (M.config machine.now) }
     requires plays { seat < job.now.about.value.sheet.players }
     requires served { C.serves chooser.old job.now.about.value }
-    requires need { IsNeed (need_at job.now.about.value (plan_seen job.now.plan.value) job.now.number seat (M.config machine.now)) }
+    requires need { IsNeed (need_at job.now.about.value (plan_seen job.now.plan.value) job.now.number seat
+        (M.config machine.now)) }
     ensures is { IfOk result (λ item. Chosen (asks
-        (need_at job.now.about.value (plan_seen job.now.plan.value) job.now.number seat (M.config machine.now))) (Some item)) }
+        (need_at job.now.about.value (plan_seen job.now.plan.value) job.now.number seat (M.config machine.now)))
+        (Some item)) }
     ensures asked { OnOk result (AsksAll
-        (asked_for (need_at job.now.about.value (plan_seen job.now.plan.value) job.now.number seat (M.config machine.now)))
+        (asked_for (need_at job.now.about.value (plan_seen job.now.plan.value) job.now.number seat
+        (M.config machine.now)))
         (C.counts chooser.old) (C.counts chooser.new) steps.old steps.new) }
     ensures lacking { OnErr result (AsksSome
-        (asked_for (need_at job.now.about.value (plan_seen job.now.plan.value) job.now.number seat (M.config machine.now)))
+        (asked_for (need_at job.now.about.value (plan_seen job.now.plan.value) job.now.number seat
+        (M.config machine.now)))
         (C.counts chooser.old) (C.counts chooser.new) steps.old steps.new) }
     ensures same { (about : PureAbout) → C.serves chooser.old about → C.serves chooser.new about }
     ensures named { C.name chooser.new ≡ C.name chooser.old }
@@ -143,7 +153,8 @@ fn offhand_at<M: Machine>(job: &Job, seat: u8, machine: &M) -> Option<u16>
     requires fresh { M.spent machine.now ≡ false }
     requires decides { StandsAtDecision job.now.about.value (M.config machine.now) }
     requires plays { seat < job.now.about.value.sheet.players }
-    requires need { IsNeed (need_at job.now.about.value (plan_seen job.now.plan.value) job.now.number seat (M.config machine.now)) }
+    requires need { IsNeed (need_at job.now.about.value (plan_seen job.now.plan.value) job.now.number seat
+        (M.config machine.now)) }
     ensures { IfSome result (IsOffhand
         (need_at job.now.about.value (plan_seen job.now.plan.value) job.now.number seat (M.config machine.now))) }
 {

@@ -37,7 +37,8 @@ pub(crate) fn go_on<M: Machine>(
     requires number { job.now.number < length job.now.plan.value.matches.items }
     requires seats { length job.now.plan.value.strategies.items ≡ job.now.about.value.sheet.players }
     requires about { M.about machine.old ≡ job.now.about.value }
-    requires deal { dealing_of dealer.old.deal ≡ dealing_of (deal_at (plan_seen job.now.plan.value) job.now.number).deal }
+    requires deal { dealing_of dealer.old.deal
+        ≡ dealing_of (deal_at (plan_seen job.now.plan.value) job.now.number).deal }
     requires fresh { M.spent machine.old ≡ false }
     requires way { IsOnWay job.now.about.value (plan_seen job.now.plan.value) job.now.number
         (lane_of (M.config machine.old) dealer.old notes.old (ready pick)) }
@@ -48,7 +49,8 @@ pub(crate) fn go_on<M: Machine>(
     ensures way { IfOk result (λ phase. IsOnWay job.now.about.value (plan_seen job.now.plan.value) job.now.number
         (lane_of (M.config machine.new) dealer.new notes.new (phase_seen phase))) }
     ensures about { M.about machine.new ≡ job.now.about.value }
-    ensures deal { dealing_of dealer.new.deal ≡ dealing_of (deal_at (plan_seen job.now.plan.value) job.now.number).deal }
+    ensures deal { dealing_of dealer.new.deal
+        ≡ dealing_of (deal_at (plan_seen job.now.plan.value) job.now.number).deal }
     ensures fresh { OnOk result (M.spent machine.new ≡ false) }
     ensures kept { OnErr result (HasMorePicks (record_seen notes.old) (record_seen notes.new)) }
 {
@@ -65,7 +67,8 @@ pub(crate) fn go_to_stop<M: Machine>(
     notes: &mut MatchRecord,
 ) -> Result<Stop, Memory>
     requires about { M.about machine.old ≡ job.now.about.value }
-    requires deal { dealing_of dealer.old.deal ≡ dealing_of (deal_at (plan_seen job.now.plan.value) job.now.number).deal }
+    requires deal { dealing_of dealer.old.deal
+        ≡ dealing_of (deal_at (plan_seen job.now.plan.value) job.now.number).deal }
     requires fresh { M.spent machine.old ≡ false }
     requires way { IsOnWay job.now.about.value (plan_seen job.now.plan.value) job.now.number
         (lane_of (M.config machine.old) dealer.old notes.old (ready pick)) }
@@ -77,10 +80,13 @@ pub(crate) fn go_to_stop<M: Machine>(
     ensures way { IfOk result (λ stop. IsOnWay job.now.about.value (plan_seen job.now.plan.value) job.now.number
         (lane_at job.now.about.value (plan_seen job.now.plan.value) job.now.number (record_seen notes.new)
         (stopped_at (stop_seen stop) (M.config machine.new) dealer.new))) }
-    ensures stands { IfOk result (λ stop. StandsWhereItStops job.now.about.value (stop_seen stop) (M.config machine.new)) }
-    ensures plays { OnOk result (mover job.now.about.value.sheet (M.config machine.new).control.frames < job.now.about.value.sheet.players) }
+    ensures stands { IfOk result (λ stop. StandsWhereItStops job.now.about.value (stop_seen stop)
+        (M.config machine.new)) }
+    ensures plays { OnOk result (mover job.now.about.value.sheet (M.config machine.new).control.frames
+        < job.now.about.value.sheet.players) }
     ensures about { M.about machine.new ≡ job.now.about.value }
-    ensures deal { dealing_of dealer.new.deal ≡ dealing_of (deal_at (plan_seen job.now.plan.value) job.now.number).deal }
+    ensures deal { dealing_of dealer.new.deal
+        ≡ dealing_of (deal_at (plan_seen job.now.plan.value) job.now.number).deal }
     ensures fresh { OnOk result (M.spent machine.new ≡ false) }
     ensures picks { HasMorePicks (record_seen notes.old) (record_seen notes.new) }
 {
@@ -106,7 +112,8 @@ fn take_any<M: Machine>(
     ensures leads { OnOk result
         (next_stop about.now (dealing_of dealer.old.deal) dealer.old.count (M.config machine.old) pick
         ≡ stop_of about.now (dealing_of dealer.old.deal) dealer.new.count (M.config machine.new)) }
-    ensures noted { OnOk result (record_seen notes.new ≡ noted about.now (M.config machine.old) (record_seen notes.old) pick) }
+    ensures noted { OnOk result (record_seen notes.new
+        ≡ noted about.now (M.config machine.old) (record_seen notes.old) pick) }
     ensures about { M.about machine.new ≡ about.now }
     ensures deal { dealing_of dealer.new.deal ≡ dealing_of dealer.old.deal }
     ensures fresh { OnOk result (M.spent machine.new ≡ false) }
@@ -133,7 +140,8 @@ fn take<M: Machine>(
     ensures leads { OnOk result
         (choose about.now (dealing_of dealer.old.deal) dealer.old.count item (M.config machine.old)
         ≡ goes dealer.new.count (M.config machine.new)) }
-    ensures noted { OnOk result (record_seen notes.new ≡ noted about.now (M.config machine.old) (record_seen notes.old) (Some item)) }
+    ensures noted { OnOk result (record_seen notes.new
+        ≡ noted about.now (M.config machine.old) (record_seen notes.old) (Some item)) }
     ensures about { M.about machine.new ≡ about.now }
     ensures deal { dealing_of dealer.new.deal ≡ dealing_of dealer.old.deal }
     ensures fresh { OnOk result (M.spent machine.new ≡ false) }
@@ -176,11 +184,14 @@ fn arrive<M: Machine>(
     requires about { M.about machine.now ≡ job.now.about.value }
     requires fresh { M.spent machine.now ≡ false }
     requires stands { StandsWhereItStops job.now.about.value (stop_seen stop) (M.config machine.now) }
-    requires plays { mover job.now.about.value.sheet (M.config machine.now).control.frames < job.now.about.value.sheet.players }
+    requires plays { mover job.now.about.value.sheet (M.config machine.now).control.frames
+        < job.now.about.value.sheet.players }
     ensures is { IfOk result (λ phase. phase_seen phase
-        ≡ phase_at job.now.about.value (plan_seen job.now.plan.value) job.now.number (stop_seen stop) (M.config machine.now)) }
+        ≡ phase_at job.now.about.value (plan_seen job.now.plan.value) job.now.number (stop_seen stop)
+        (M.config machine.now)) }
     ensures notes { OnOk result (record_seen notes.new
-        ≡ notes_at job.now.about.value (record_seen notes.old) (stop_seen stop) (M.config machine.now) dealer.now.count) }
+        ≡ notes_at job.now.about.value (record_seen notes.old) (stop_seen stop)
+        (M.config machine.now) dealer.now.count) }
     ensures kept { OnErr result (notes.new ≡ notes.old) }
 {
     match stop {
@@ -239,7 +250,8 @@ fn end<M: Machine>(
     requires fresh { M.spent machine.now ≡ false }
     ensures is { IfOk result (λ phase. phase_seen phase ≡ over) }
     ensures notes { OnOk result (record_seen notes.new
-        ≡ completed job.now.about.value (record_seen notes.old) (ending_seen stop) (M.config machine.now) dealer.now.count) }
+        ≡ completed job.now.about.value (record_seen notes.old) (ending_seen stop)
+        (M.config machine.now) dealer.now.count) }
     ensures kept { OnErr result (notes.new ≡ notes.old) }
 {
     complete(alloc, &job.about, machine, dealer, stop, notes)?;

@@ -1,5 +1,5 @@
-//! What is offered alike of all members of a domain: where a guard doesn't read which member it is asked of, it is asked once, and how
-//! many members there are is all that is wanted of them.
+//! What is offered alike of all members of a domain: where a guard doesn't read which member it is asked of, it is
+//! asked once, and how many members there are is all that is wanted of them.
 ghost use Rattle.std.specs.Prelude.{◌≡◌, ◌+◌, ◌≤◌, ◌++◌, ◌∷◌, [], length, if◌then◌else◌, IfSome};
 ghost use Rattle.rc_model.specs.Limits.{most_in_collection};
 ghost use Rattle.rc_play_model.specs.Menu.{spots_of};
@@ -19,7 +19,8 @@ use rc_value::{
     note_values, test_of,
 };
 
-/// Whether an alternative offers each member of the domain around it, or none. It isn't told where what it offers may hang on the member.
+/// Whether an alternative offers each member of the domain around it, or none. It isn't told where what it offers may
+/// hang on the member.
 #[inline(never)]
 pub(crate) fn offered_alike(scene: &Scene, scope: &Bindings, inner: &Alt) -> Option<bool>
     requires fits { length scope.now + (1 + alt_depth (alt_seen inner.now)) ≤ 5 }
@@ -105,7 +106,8 @@ fn may_read(alt: &Alt, place: usize) -> bool
     }
 }
 
-/// How many groups the domain of an alternative has, if they are the same for each member of the domain around it, and nothing reads them.
+/// How many groups the domain of an alternative has, if they are the same for each member of the domain around it, and
+/// nothing reads them.
 #[inline(never)]
 pub(crate) fn groups_inside(scene: &Scene, scope: &Bindings, inner: &Alt) -> Option<usize>
     requires fits { length scope.now + (1 + alt_depth (alt_seen inner.now)) ≤ 5 }

@@ -17,8 +17,9 @@ use rc_ast::Test;
 use rc_flow::test_reads;
 use rc_value::{Bind, Bindings, Card, Scene, Wanted, is_so, test_of, value_in, wanted_of};
 
-/// What is asked of each card that the innermost variable stands for. Most guards ask for values, which stand apart from other wishes:
-/// for a value, or as a value is to be or not to be, in the row of all cards' values for an attribute.
+/// What is asked of each card that the innermost variable stands for. Most guards ask for values, which stand apart
+/// from other wishes: for a value, or as a value is to be or not to be, in the row of all cards' values for an
+/// attribute.
 #[derive(Clone, Copy)]
 pub(crate) enum CardAsk<'t> {
     Value {
@@ -42,8 +43,8 @@ impl<'t> Default for CardAsk<'t> {
 /// What a guard asks of each card.
 pub(crate) type Asks<'t> = ArrayVec<CardAsk<'t>, 4>;
 
-/// What is known of a guard for all cards: whether it is settled, and, where it isn't, whether one yes is enough. Where it is settled,
-/// the second says which way.
+/// What is known of a guard for all cards: whether it is settled, and, where it isn't, whether one yes is enough. Where
+/// it is settled, the second says which way.
 #[derive(Clone, Copy)]
 pub(crate) struct Parts {
     pub(crate) settled: bool,
@@ -66,12 +67,14 @@ pub(crate) fn ask_in<'t>(row: &'t [Option<u16>], wanted: Wanted) -> CardAsk<'t>
     }
 }
 
-// A test of which it is known which value the cards are to have. It is asked by the row of their values, and as a test if there is none.
+// A test of which it is known which value the cards are to have. It is asked by the row of their values, and as a test
+// if there is none.
 #[inline(always)]
 fn ask_by<'t>(scene: &'t Scene, scope: &Bindings, wanted: Wanted, test: &'t Test) -> CardAsk<'t>
     requires wanted { IsWanted (scene_seen scene.now) scope.now (test_seen test.now) wanted }
     requires deep { length scope.now + (1 + test_depth (test_seen test.now)) ≤ 5 }
-    ensures is { (c : CardValue) → told_of (scene_seen scene.now) scope.now (test_seen test.now) c ≡ ask_value (scene_seen scene.now) scope.now c result }
+    ensures is { (c : CardValue) → told_of (scene_seen scene.now) scope.now (test_seen test.now) c
+        ≡ ask_value (scene_seen scene.now) scope.now c result }
     ensures fits { length scope.now + ask_depth result ≤ 5 }
 {
     match scene.lookup.values(wanted.name) {
@@ -82,7 +85,8 @@ fn ask_by<'t>(scene: &'t Scene, scope: &Bindings, wanted: Wanted, test: &'t Test
 
 fn ask_of<'t>(scene: &'t Scene, scope: &Bindings, test: &'t Test) -> CardAsk<'t>
     requires deep { length scope.now + (1 + test_depth (test_seen test.now)) ≤ 5 }
-    ensures is { (c : CardValue) → told_of (scene_seen scene.now) scope.now (test_seen test.now) c ≡ ask_value (scene_seen scene.now) scope.now c result }
+    ensures is { (c : CardValue) → told_of (scene_seen scene.now) scope.now (test_seen test.now) c
+        ≡ ask_value (scene_seen scene.now) scope.now c result }
     ensures fits { length scope.now + ask_depth result ≤ 5 }
 {
     match wanted_of(scene, scope, &scope.with(Bind::Player(0)), test) {
@@ -141,8 +145,8 @@ pub(crate) fn joined_answer(
     !any
 }
 
-// Joins a test to what is asked. Where it doesn't read the variable, it is asked at once, with anything in the variable's place, and
-// then it may settle all.
+// Joins a test to what is asked. Where it doesn't read the variable, it is asked at once, with anything in the
+// variable's place, and then it may settle all.
 #[inline(always)]
 fn settles<'t>(
     scene: &'t Scene,
@@ -154,7 +158,8 @@ fn settles<'t>(
     requires deep { length scope.now + (1 + test_depth (test_seen test.now)) ≤ 5 }
     requires room { length asks.old.items < 4 }
     requires fit { AllFit scope.now asks.old.items }
-    ensures is { IsJoined (scene_seen scene.now) scope.now (test_seen test.now) any result asks.old.items asks.new.items }
+    ensures is { IsJoined (scene_seen scene.now) scope.now
+        (test_seen test.now) any result asks.old.items asks.new.items }
     ensures count { length asks.new.items ≤ length asks.old.items + 1 }
     ensures fit { AllFit scope.now asks.new.items }
 {
@@ -180,7 +185,8 @@ fn settles_whole<'t>(
     requires deep { length scope.now + (1 + test_depth (test_seen test.now)) ≤ 5 }
     requires room { length asks.old.items < 4 }
     requires fit { AllFit scope.now asks.old.items }
-    ensures is { IsJoined (scene_seen scene.now) scope.now (test_seen test.now) any result asks.old.items asks.new.items }
+    ensures is { IsJoined (scene_seen scene.now) scope.now
+        (test_seen test.now) any result asks.old.items asks.new.items }
     ensures count { length asks.new.items ≤ length asks.old.items + 1 }
     ensures fit { AllFit scope.now asks.new.items }
 {
@@ -203,7 +209,8 @@ fn all_settle<'t>(
     requires few { length tests.now.items ≤ 4 }
     requires deep { length scope.now + (1 + tests_depth (tests_seen tests.now.items)) ≤ 5 }
     requires empty { asks.old.items ≡ [] }
-    ensures is { (c : CardValue) → joined any (tests_value (scene_seen scene.now) (scope.now ++ card_bound c ∷ []) (tests_seen tests.now.items))
+    ensures is { (c : CardValue) → joined any
+        (tests_value (scene_seen scene.now) (scope.now ++ card_bound c ∷ []) (tests_seen tests.now.items))
         ≡ (if result then any else joined any (map (ask_value (scene_seen scene.now) scope.now c) asks.new.items)) }
     ensures fit { AllFit scope.now asks.new.items }
 {

@@ -26,8 +26,8 @@ use rc_state::{Context, bare_bind_at, bind_of, member_at};
 use rc_table::{Shape, Table, face_number};
 use rc_value::{Bind, Bindings, Card, Cards, Current, expressions_bind_few};
 
-/// What these positions bind in an alternative, where it is known who is current. It costs little where no variable is bound, or only
-/// players and cards that stand somewhere as they are.
+/// What these positions bind in an alternative, where it is known who is current. It costs little where no variable is
+/// bound, or only players and cards that stand somewhere as they are.
 pub fn item_bounds(
     about: &About,
     current: Current,
@@ -40,7 +40,8 @@ pub fn item_bounds(
     requires current { IsCurrent about.now.sheet (frames_seen frames.now.items) current }
     requires well { IsAltOutside about.now.sheet (alt_seen alt.now) }
     ensures { bounds_seen result ≡ map (bound_of about.now.shape)
-        (bindings_of (scene_at about.now table.now.table (frames_seen frames.now.items)) [] (alt_seen alt.now) spots.now) }
+        (bindings_of (scene_at about.now table.now.table (frames_seen frames.now.items)) []
+        (alt_seen alt.now) spots.now) }
 {
     let mut bounds = Bounds::new();
     match alt {
@@ -73,11 +74,13 @@ fn note_any(
 )
     requires stands { Stands context.now table.now frames.now.items }
     requires domain { IsDomainUnder context.now.about.now.sheet context.now.scope.now (domain_seen domain.now) }
-    requires well { (member : PureBind CardValue) → IsAltUnder context.now.about.now.sheet (context.now.scope.now ++ member ∷ []) (alt_seen inner.now) }
+    requires well { (member : PureBind CardValue)
+        → IsAltUnder context.now.about.now.sheet (context.now.scope.now ++ member ∷ []) (alt_seen inner.now) }
     requires room { length context.now.scope.now + (1 + domains_in (alt_seen inner.now)) ≤ 4 }
     requires outside { bounds_seen bounds.old ≡ map (bound_of context.now.about.now.shape) context.now.scope.now }
     ensures { bounds_seen bounds.new ≡ map (bound_of context.now.about.now.shape)
-        (bindings_of (scene_in context.now table.now frames.now.items) context.now.scope.now (any_alt (domain_seen domain.now) 0 (alt_seen inner.now)) spots.now) }
+        (bindings_of (scene_in context.now table.now frames.now.items) context.now.scope.now
+        (any_alt (domain_seen domain.now) 0 (alt_seen inner.now)) spots.now) }
 {
     match spots.split_first() {
         None => {}
@@ -103,11 +106,13 @@ fn note_member(
 )
     requires stands { Stands context.now table.now frames.now.items }
     requires domain { IsDomainUnder context.now.about.now.sheet context.now.scope.now (domain_seen domain.now) }
-    requires well { (member : PureBind CardValue) → IsAltUnder context.now.about.now.sheet (context.now.scope.now ++ member ∷ []) (alt_seen inner.now) }
+    requires well { (member : PureBind CardValue)
+        → IsAltUnder context.now.about.now.sheet (context.now.scope.now ++ member ∷ []) (alt_seen inner.now) }
     requires room { length context.now.scope.now + (1 + domains_in (alt_seen inner.now)) ≤ 4 }
     requires outside { bounds_seen bounds.old ≡ map (bound_of context.now.about.now.shape) context.now.scope.now }
     ensures { bounds_seen bounds.new ≡ map (bound_of context.now.about.now.shape)
-        (bindings_of (scene_in context.now table.now frames.now.items) context.now.scope.now (any_alt (domain_seen domain.now) 0 (alt_seen inner.now)) (spot ∷ rest.now)) }
+        (bindings_of (scene_in context.now table.now frames.now.items) context.now.scope.now
+        (any_alt (domain_seen domain.now) 0 (alt_seen inner.now)) (spot ∷ rest.now)) }
 {
     let mut room = Cards::new();
     let member = member_at(context, domain, spot, table, frames, &mut room);
@@ -128,11 +133,13 @@ fn note_bound(
 )
     requires stands { Stands context.now table.now frames.now.items }
     requires bind { IsBindOf context.now.about.now.shape (bind_seen bind) }
-    requires well { IsAltUnder context.now.about.now.sheet (context.now.scope.now ++ bind_seen bind ∷ []) (alt_seen inner.now) }
+    requires well { IsAltUnder context.now.about.now.sheet (context.now.scope.now ++ bind_seen bind ∷ [])
+        (alt_seen inner.now) }
     requires room { length context.now.scope.now + (1 + domains_in (alt_seen inner.now)) ≤ 4 }
     requires outside { bounds_seen bounds.old ≡ map (bound_of context.now.about.now.shape) context.now.scope.now }
     ensures { bounds_seen bounds.new ≡ map (bound_of context.now.about.now.shape)
-        (bindings_of (scene_in context.now table.now frames.now.items) (context.now.scope.now ++ bind_seen bind.entry ∷ []) (alt_seen inner.now) spots.now) }
+        (bindings_of (scene_in context.now table.now frames.now.items)
+        (context.now.scope.now ++ bind_seen bind.entry ∷ []) (alt_seen inner.now) spots.now) }
 {
     bounds.push(bound_by(context.about.shape(), bind));
     match inner {

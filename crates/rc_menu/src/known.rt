@@ -1,5 +1,5 @@
-//! What is at hand of the tests of a guard. Some hold or don't whatever variables stand for: comparisons of numbers that no variable
-//! owns, and whether the cards of such a location are as they are wanted.
+//! What is at hand of the tests of a guard. Some hold or don't whatever variables stand for: comparisons of numbers
+//! that no variable owns, and whether the cards of such a location are as they are wanted.
 ghost use Rattle.std.specs.Prelude.{◌≡◌, ◌<◌, true, IfSome, int_lt, int_le, length};
 ghost use Rattle.std.specs.Ordering.{int_eq};
 ghost use Rattle.std.specs.List.{list_any, list_all};
@@ -17,7 +17,8 @@ use rc_value::{
     is_fixed_collection, is_fixed_owner, number_at_hand, some_met_in, some_one_by_one, wanted_at,
 };
 
-/// What is at hand of a test of the innermost variable's card: which value the card is to have, or whether the test holds for any card.
+/// What is at hand of a test of the innermost variable's card: which value the card is to have, or whether the test
+/// holds for any card.
 #[derive(Clone, Copy)]
 pub(crate) enum AtHand {
     Wished(Wanted),
@@ -216,7 +217,8 @@ fn at_most_known(scene: &Scene, scope: &Bindings, a: &IntExpr, b: &IntExpr) -> O
 // The location that a variable runs over, if no variable owns it.
 #[inline(always)]
 fn location_of<'d>(domain: &'d Domain) -> Option<&'d Loc>
-    ensures { IfSome result (λ loc. (domain_seen domain.now ≡ each_card (cards_in (loc_seen loc.now))) × IsFixedOwner (loc_seen loc.now).who) }
+    ensures { IfSome result (λ loc. (domain_seen domain.now ≡ each_card (cards_in (loc_seen loc.now)))
+        × IsFixedOwner (loc_seen loc.now).who) }
 {
     match domain {
         Domain::Coll(cards) => fixed_location(cards),
@@ -226,7 +228,8 @@ fn location_of<'d>(domain: &'d Domain) -> Option<&'d Loc>
 
 #[inline(always)]
 fn fixed_location<'d>(cards: &'d CollExpr) -> Option<&'d Loc>
-    ensures { IfSome result (λ loc. (coll_seen cards.now ≡ cards_in (loc_seen loc.now)) × IsFixedOwner (loc_seen loc.now).who) }
+    ensures { IfSome result (λ loc. (coll_seen cards.now ≡ cards_in (loc_seen loc.now))
+        × IsFixedOwner (loc_seen loc.now).who) }
 {
     match cards {
         CollExpr::Loc(loc) => {
@@ -282,7 +285,8 @@ fn any_known(
 // Whether all cards of a location are as they are wanted.
 #[inline(always)]
 fn all_there(scene: &Scene, scope: &Bindings, loc: &Loc, wanted: Wanted) -> bool
-    ensures { result ≡ list_all (wanted_value (scene_seen scene.now) wanted) (coll_value (scene_seen scene.now) scope.now (cards_in (loc_seen loc.now))) }
+    ensures { result ≡ list_all (wanted_value (scene_seen scene.now) wanted)
+        (coll_value (scene_seen scene.now) scope.now (cards_in (loc_seen loc.now))) }
 {
     match scene.lookup.values(wanted.name) {
         Some(row) => all_met_in(row, wanted, ids_of(scene, scope, loc)),
@@ -293,7 +297,8 @@ fn all_there(scene: &Scene, scope: &Bindings, loc: &Loc, wanted: Wanted) -> bool
 /// Whether one of them is.
 #[inline(always)]
 pub(crate) fn some_there(scene: &Scene, scope: &Bindings, loc: &Loc, wanted: Wanted) -> bool
-    ensures { result ≡ list_any (wanted_value (scene_seen scene.now) wanted) (coll_value (scene_seen scene.now) scope.now (cards_in (loc_seen loc.now))) }
+    ensures { result ≡ list_any (wanted_value (scene_seen scene.now) wanted)
+        (coll_value (scene_seen scene.now) scope.now (cards_in (loc_seen loc.now))) }
 {
     match scene.lookup.values(wanted.name) {
         Some(row) => some_met_in(row, wanted, ids_of(scene, scope, loc)),

@@ -1,5 +1,5 @@
-//! What a choice offers: the menu of its alternatives at a table, in order, with what guards ask once and for all cards told apart; and
-//! what its items bind.
+//! What a choice offers: the menu of its alternatives at a table, in order, with what guards ask once and for all cards
+//! told apart; and what its items bind.
 //!
 //! Nothing here takes memory.
 #![tactic(auto)]

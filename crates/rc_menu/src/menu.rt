@@ -50,7 +50,8 @@ fn put_if(menu: &mut Items, item: &Item, passes: bool)
     }
 }
 
-// The items that an alternative offers behind the positions that are bound so far. How many groups its domain has may be known.
+// The items that an alternative offers behind the positions that are bound so far. How many groups its domain has may
+// be known.
 #[cycle(menu)]
 fn offer(
     scene: &Scene,

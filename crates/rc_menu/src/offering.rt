@@ -308,8 +308,8 @@ fn offer_sought(parts: Parts, asks: &[CardAsk], ids: &[u16], item: &Item, menu: 
     }
 }
 
-/// Offers those of the cards of a location for which a guard holds whose parts are known. Where there is no row of values for what it
-/// asks, it offers nothing, and says so.
+/// Offers those of the cards of a location for which a guard holds whose parts are known. Where there is no row of
+/// values for what it asks, it offers nothing, and says so.
 #[inline(never)]
 pub(crate) fn offer_in_parts(
     scene: &Scene,

@@ -1,5 +1,5 @@
-//! Guards of the cards of a location that are known in parts. Nothing of them hangs on a variable but values of the card itself, so each
-//! part is asked once, with no walk over a tree, outside all binders.
+//! Guards of the cards of a location that are known in parts. Nothing of them hangs on a variable but values of the
+//! card itself, so each part is asked once, with no walk over a tree, outside all binders.
 ghost use Rattle.std.specs.Prelude.{◌≡◌, ℕ, ◌+◌, ◌<◌, ◌≤◌, [], true, length, map, All, IfSome, if◌then◌else◌};
 ghost use Rattle.std.specs.List.{list_all};
 ghost use Rattle.rc_sheet_model.specs.Sheet.{Test as PureTest};
@@ -95,7 +95,8 @@ fn part_settles<'t>(
     requires fixed { IsFixedPart part.now }
     requires room { length asks.old.items < 4 }
     requires sought { list_all asks_value asks.old.items ≡ true }
-    ensures is { IfSome result (λ settled. IsJoined (scene_seen scene.now) scope.now (part_meant part.now) any settled asks.old.items asks.new.items) }
+    ensures is { IfSome result (λ settled. IsJoined (scene_seen scene.now) scope.now
+        (part_meant part.now) any settled asks.old.items asks.new.items) }
     ensures count { length asks.new.items ≤ length asks.old.items + 1 }
     ensures sought { list_all asks_value asks.new.items ≡ true }
 {
@@ -125,7 +126,8 @@ fn parts_settle<'t>(
     requires fixed { All IsFixedPart parts.now }
     requires few { length parts.now ≤ 4 }
     requires empty { asks.old.items ≡ [] }
-    ensures is { IfSome result (λ settled. (c : CardValue) → joined any (parts_told (scene_seen scene.now) scope.now parts.now c)
+    ensures is { IfSome result (λ settled. (c : CardValue)
+        → joined any (parts_told (scene_seen scene.now) scope.now parts.now c)
         ≡ (if settled then any else joined any (map (ask_value (scene_seen scene.now) scope.now c) asks.new.items))) }
     ensures sought { list_all asks_value asks.new.items ≡ true }
 {
@@ -142,7 +144,8 @@ fn parts_settle<'t>(
     Some(false)
 }
 
-/// A guard whose parts are known, in parts as `parts_of` has them: values are all that is asked. None where there is no row of them.
+/// A guard whose parts are known, in parts as `parts_of` has them: values are all that is asked. None where there is no
+/// row of them.
 #[inline(always)]
 pub(crate) fn known_parts<'t>(
     scene: &'t Scene,
@@ -153,7 +156,8 @@ pub(crate) fn known_parts<'t>(
     requires outside { scope.now ≡ [] }
     requires fixed { IsFixedGuard guard.now }
     requires empty { asks.old.items ≡ [] }
-    ensures is { IfSome result (λ parts. IsInParts (scene_seen scene.now) scope.now (guard_meant guard.now) parts asks.new.items) }
+    ensures is { IfSome result (λ parts. IsInParts (scene_seen scene.now) scope.now
+        (guard_meant guard.now) parts asks.new.items) }
     ensures sought { list_all asks_value asks.new.items ≡ true }
 {
     // what a list keeps

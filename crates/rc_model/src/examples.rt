@@ -1,5 +1,5 @@
-//! Definitions of texts and points, computed on a few. No function here does anything: each has a contract that the check
-//! proves by computing both sides.
+//! Definitions of texts and points, computed on a few. No function here does anything: each has a contract that the
+//! check proves by computing both sides.
 ghost use Rattle.std.specs.Prelude.{◌≡◌, [], ◌∷◌, codes, pos, neg_ℤ, Some, None};
 ghost use Rattle.rc_model.specs.Examples.{three_entries};
 ghost use Rattle.rc_model.specs.Literal.{natural, integer};
@@ -18,7 +18,8 @@ pub fn cut_at_edges()
     ensures ends_of_parts { tokens (32 ∷ 33 ∷ 126 ∷ 32 ∷ []) ≡ atom 1 (33 ∷ 126 ∷ []) ∷ [] }
     ensures odd_control { tokens (11 ∷ 31 ∷ 128 ∷ []) ≡ odd 0 ∷ odd 1 ∷ odd 2 ∷ [] }
     ensures odd_behind_atom { tokens (97 ∷ 0 ∷ 98 ∷ []) ≡ atom 0 (codes "a") ∷ odd 1 ∷ atom 2 (codes "b") ∷ [] }
-    ensures list_behind_atom { tokens (codes "a(b)c") ≡ atom 0 (codes "a") ∷ opening 1 ∷ atom 2 (codes "b") ∷ closing 3 ∷ atom 4 (codes "c") ∷ [] }
+    ensures list_behind_atom { tokens (codes "a(b)c")
+        ≡ atom 0 (codes "a") ∷ opening 1 ∷ atom 2 (codes "b") ∷ closing 3 ∷ atom 4 (codes "c") ∷ [] }
     ensures comment_to_end { tokens (codes "a;b (c") ≡ atom 0 (codes "a") ∷ [] }
     ensures carriage_return { tokens (59 ∷ 40 ∷ 13 ∷ 40 ∷ 10 ∷ 41 ∷ []) ≡ closing 5 ∷ [] }
 {}

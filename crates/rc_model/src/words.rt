@@ -2,8 +2,8 @@
 ghost use Rattle.std.specs.Prelude.{◌≡◌, ◌∷◌, [], codes, true, false};
 ghost use Rattle.rc_model.specs.Words.{is_variable, with_word, different};
 
-/// A word that stands twice counts where it stands first, and one more word goes last where it is new. A variable begins with
-/// a quote.
+/// A word that stands twice counts where it stands first, and one more word goes last where it is new. A variable
+/// begins with a quote.
 pub fn words_in_order()
     ensures first { different (codes "B" ∷ codes "A" ∷ codes "B" ∷ codes "C" ∷ codes "A" ∷ [])
         ≡ codes "B" ∷ codes "A" ∷ codes "C" ∷ [] }

@@ -84,8 +84,8 @@ pub const LONGEST_TEXT: usize = 1 << 25;
 /// The largest number of a game. The least one is as far below 0.
 pub const LARGEST_NUMBER: i64 = 1_000_000_000;
 
-/// The limits and the range of numbers are those of the definitions. The function does nothing: its contract is proved by
-/// computing.
+/// The limits and the range of numbers are those of the definitions. The function does nothing: its contract is proved
+/// by computing.
 pub fn limits_as_defined()
     ensures players { MOST_PLAYERS ≡ most_players }
     ensures cards { MOST_CARDS ≡ most_cards }

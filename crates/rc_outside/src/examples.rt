@@ -1,5 +1,5 @@
-//! The definitions of calls over memory, computed at their limits, which no run reaches. No function here does anything: each
-//! has a contract that the check proves by computing.
+//! The definitions of calls over memory, computed at their limits, which no run reaches. No function here does
+//! anything: each has a contract that the check proves by computing.
 ghost use Rattle.std.specs.Prelude.{◌≡◌, ◌-◌, ◌^◌, [], ◌∷◌, codes};
 ghost use Rattle.rc_outside.specs.Faults.{Rose, next_count};
 ghost use Rattle.rc_outside.specs.Calls.{no_call, IsToFail, after_success, after_failure};

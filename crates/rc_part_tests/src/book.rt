@@ -60,8 +60,8 @@ enum Seen {
     Hides(usize),
 }
 
-/// What is seen at a decision of a match: by which seat, at which turn count, behind how many decisions of each seat, and of STOCK, of
-/// the two hands and of what the two players played.
+/// What is seen at a decision of a match: by which seat, at which turn count, behind how many decisions of each seat,
+/// and of STOCK, of the two hands and of what the two players played.
 #[derive(Clone, Copy)]
 struct Decision {
     seat: u8,
@@ -70,8 +70,8 @@ struct Decision {
     locations: [Seen; 5],
 }
 
-/// The decisions of each match. A round and a decision each raise the turn count by one. The cards 3 and 2 were dealt to the first seat
-/// and 1 and 0 to the second one, and each seat plays them in that order.
+/// The decisions of each match. A round and a decision each raise the turn count by one. The cards 3 and 2 were dealt
+/// to the first seat and 1 and 0 to the second one, and each seat plays them in that order.
 const DECISIONS: [Decision; 4] = [
     Decision {
         seat: 0,
@@ -224,7 +224,8 @@ fn counted(calls: &[Call], ask: Option<&Ask>) -> Told {
     told
 }
 
-/// Fails unless the calls look up what is asked at each decision of both matches, and nothing else, and keep what they missed.
+/// Fails unless the calls look up what is asked at each decision of both matches, and nothing else, and keep what they
+/// missed.
 fn expect_calls(rt: &(impl AllocGlobal + Abort), calls: &[Call]) -> Result<(), Fail> {
     let all = counted(calls, None);
     expect_same(rt, all.misses.saturating_add(all.hits), 8);

@@ -23,8 +23,8 @@ fn a_key_has_its_numbers_with_the_lowest_bytes_first(rt: HostRuntime) {
     expect_same(&rt, key32(0, 1, 2, 0), KEY);
 }
 
-/// Four numbers of a key, a number of items, and the item that the key picks. With w the first word of the key, that is w * n / 2^32.
-/// The words were made by a ChaCha8 written apart from this program.
+/// Four numbers of a key, a number of items, and the item that the key picks. With w the first word of the key, that is
+/// w * n / 2^32. The words were made by a ChaCha8 written apart from this program.
 const PICKS: [([u64; 4], u32, u32); 8] = [
     ([0, 0, 0, 0], 52, 9), // 804,192,318
     ([1, 0, 0, 0], 7, 4), // 2,699,648,719
@@ -44,8 +44,8 @@ fn a_key_picks_by_its_first_word(rt: HostRuntime) {
     }
 }
 
-/// Fails unless a key picks out of so many by the first word that the generator of `rand_chacha` makes of it. That is other code than
-/// what makes the word of `pick_by`.
+/// Fails unless a key picks out of so many by the first word that the generator of `rand_chacha` makes of it. That is
+/// other code than what makes the word of `pick_by`.
 fn expect_pick(rt: &impl Abort, key: [u8; 32], size: u32) {
     assert!(rt; 0 < size);
     let word = u64::from(ChaCha8Rng::from_seed(key).next_u32());

@@ -47,8 +47,8 @@ impl Gate for Doors {
     }
 }
 
-/// Notes how many decisions it saw of a match that had entered, and how many of one that had not. The seed of the seats is the match's
-/// number.
+/// Notes how many decisions it saw of a match that had entered, and how many of one that had not. The seed of the seats
+/// is the match's number.
 #[derive(Drop)]
 struct Doorkeeper {
     doors: Arc<Doors>,
@@ -77,7 +77,8 @@ fn choosers(
     doors: &Arc<Doors>,
 ) -> Result<Vec<Observed<Doorkeeper>>, Fail>
     ensures two { IfOk result (λ choosers. length choosers.items ≡ 2) }
-    ensures code { IfOk result (λ choosers. All (λ c. (c.choices.code.value ≡ code.now.value) × (c.code.value ≡ code.now.value)) choosers.items) }
+    ensures code { IfOk result (λ choosers. All
+        (λ c. (c.choices.code.value ≡ code.now.value) × (c.code.value ≡ code.now.value)) choosers.items) }
 {
     let first = chooser(code, doors)?;
     let second = chooser(code, doors)?;
@@ -132,8 +133,8 @@ fn played<R: AllocGlobal + Threads + Sync>(
     Ok(seen(choosers))
 }
 
-/// No other worker enters a match than the one that claimed it and plays it. So where that one asks the gate behind the play, the match
-/// hasn't entered at its first decision, however the workers take turns.
+/// No other worker enters a match than the one that claimed it and plays it. So where that one asks the gate behind the
+/// play, the match hasn't entered at its first decision, however the workers take turns.
 #[test]
 fn a_match_enters_before_it_is_played(rt: HostRuntime) -> Result<(), Fail> {
     let game = game_in(rt.alloc(), GAME, PLAN)?;

@@ -1,4 +1,5 @@
-//! Matches of games on the tree machine and on the machines that matches and playouts are played on, and the ways back of these.
+//! Matches of games on the tree machine and on the machines that matches and playouts are played on, and the ways back
+//! of these.
 ghost use Rattle.std.specs.Prelude.{◌≡◌, ◌<◌, length};
 ghost use Rattle.rc_code.specs.Seen.{code_seen};
 ghost use Rattle.rc_code.specs.Stands.{StandsFor};
@@ -88,8 +89,8 @@ fn costs_of(plan: &Plan, record: &MatchRecord) -> (u64, u32) {
     (looks, playouts)
 }
 
-/// Fails unless all playouts of a match came back, none of which shuffles, and the memo that remembers nothing was asked at each
-/// rollout and given its totals.
+/// Fails unless all playouts of a match came back, none of which shuffles, and the memo that remembers nothing was
+/// asked at each rollout and given its totals.
 fn expect_returns(rt: &impl Abort, plan: &Plan, watched: &Watched) {
     let (looks, made) = costs_of(plan, &watched.record);
     let playouts = Playouts { made, shuffles: 0 };
@@ -125,9 +126,9 @@ fn each_playout_of_a_match_goes_back_to_its_decision(rt: HostRuntime) -> Result<
     Ok(())
 }
 
-/// Games and short plans for them: cards that are shuffled, dealt, drawn, remembered and moved; stages inside one another, a member
-/// that is named and a direction that turns; ends, turn limits before a round and before a decision; and many cards that are moved
-/// at once.
+/// Games and short plans for them: cards that are shuffled, dealt, drawn, remembered and moved; stages inside one
+/// another, a member that is named and a direction that turns; ends, turn limits before a round and before a decision;
+/// and many cards that are moved at once.
 const GAMES: [(&[u8], &[u8]); 6] = [
     (
         DRAWS,

@@ -52,8 +52,8 @@ fn play_with<L: Ledger>(
     })
 }
 
-/// The choices of a match: seat, site, item and size. Both cards of a player are played in any case, so all items do as well, and the
-/// first one is taken.
+/// The choices of a match: seat, site, item and size. Both cards of a player are played in any case, so all items do as
+/// well, and the first one is taken.
 const CHOICES: [(u8, u8, u16, u16); 4] = [(0, 0, 0, 2), (1, 0, 0, 2), (0, 0, 0, 1), (1, 0, 0, 1)];
 
 /// Fails unless these are a match's choices.
@@ -75,7 +75,8 @@ fn looks_of(alloc: Global, bits: u8) -> Result<Vec<u64>, AllocError> {
     Ok(looks)
 }
 
-/// The looks that lose what a look of the first match has had kept before the second match looks for it, which is four looks later.
+/// The looks that lose what a look of the first match has had kept before the second match looks for it, which is four
+/// looks later.
 const LOST: [u8; 4] = [0b0001_1110, 0b0011_1100, 0b0111_1000, 0b1111_0000];
 
 /// How many looks of the second match find what was kept.

@@ -1,5 +1,5 @@
-//! Machines that are made anew at a decision: of a small game, and of the largest sheet, with 512 cards, 256 locations and 256 numbers,
-//! and in a match as many references as there may be.
+//! Machines that are made anew at a decision: of a small game, and of the largest sheet, with 512 cards, 256 locations
+//! and 256 numbers, and in a match as many references as there may be.
 ghost use Rattle.std.specs.Prelude.{◌≡◌, false, IfOk};
 ghost use Rattle.rc_play_model.specs.Shape.{shape_of as shape_for};
 ghost use Rattle.rc_play_model.specs.Step.{start};
@@ -38,7 +38,8 @@ fn decide_first(
 ) -> Result<(), Fail>
     requires about { machine.old.about ≡ about.now }
     requires start { config_of machine.old ≡ start about.now }
-    ensures decides { IfOk result (λ _. CanDecide about.now (config_of machine.new).table (config_of machine.new).control) }
+    ensures decides { IfOk result (λ _. CanDecide about.now (config_of machine.new).table
+        (config_of machine.new).control) }
     ensures same { machine.new.about ≡ about.now }
 {
     controls_fit_their_sites();
@@ -53,7 +54,8 @@ fn decide_first(
 /// What the matches are played by, with a turn limit of 100.
 fn about_on(alloc: Global, basis: &Basis) -> Result<About, Fail>
     requires { basis.now.shape.value ≡ shape_for basis.now.checked.value }
-    ensures { IfOk result (λ about. about ≡ record { sheet = basis.now.checked.value; shape = basis.now.shape.value; turns = 100 }) }
+    ensures { IfOk result (λ about. about
+        ≡ record { sheet = basis.now.checked.value; shape = basis.now.shape.value; turns = 100 }) }
 {
     let checked = Arc::try_clone(&basis.checked)?;
     let shape = Arc::try_clone(&basis.shape)?;
@@ -73,7 +75,8 @@ fn first_on(alloc: Global, about: &About, dealer: &mut MatchDealer) -> Result<Pl
 /// A machine that is made where another one stands, at a decision.
 fn made_there(alloc: Global, basis: &Basis, machine: &PlainMachine) -> Result<PlainMachine, Fail>
     requires shape { basis.now.shape.value ≡ shape_for basis.now.checked.value }
-    requires about { machine.now.about ≡ record { sheet = basis.now.checked.value; shape = basis.now.shape.value; turns = 100 } }
+    requires about { machine.now.about
+        ≡ record { sheet = basis.now.checked.value; shape = basis.now.shape.value; turns = 100 } }
     requires decides { CanDecide machine.now.about (config_of machine.now).table (config_of machine.now).control }
 {
     let table = machine.table().copy(alloc)?;
@@ -111,7 +114,8 @@ fn flat_there(
 ) -> Result<FlatMachine, Fail>
     requires shape { basis.now.shape.value ≡ shape_for basis.now.checked.value }
     requires code { StandsFor basis.now.checked.value (code_seen code.now.value) }
-    requires about { machine.now.about ≡ record { sheet = basis.now.checked.value; shape = basis.now.shape.value; turns = 100 } }
+    requires about { machine.now.about
+        ≡ record { sheet = basis.now.checked.value; shape = basis.now.shape.value; turns = 100 } }
     requires decides { CanDecide machine.now.about (config_of machine.now).table (config_of machine.now).control }
     ensures fresh { IfOk result (λ m. m.spent ≡ false) }
 {
@@ -155,7 +159,8 @@ fn expect_flat(
     machine: &PlainMachine,
 ) -> Result<(), Fail>
     requires shape { basis.now.shape.value ≡ shape_for basis.now.checked.value }
-    requires about { machine.now.about ≡ record { sheet = basis.now.checked.value; shape = basis.now.shape.value; turns = 100 } }
+    requires about { machine.now.about
+        ≡ record { sheet = basis.now.checked.value; shape = basis.now.shape.value; turns = 100 } }
     requires decides { CanDecide machine.now.about (config_of machine.now).table (config_of machine.now).control }
 {
     let code = code_on(rt.alloc(), basis)?;
@@ -180,8 +185,9 @@ fn expect_full(rt: &(impl AllocGlobal + Abort), table: &Table) {
 /// What a seat doesn't see: three locations of the game, and 31 of each other player.
 const UNSEEN: usize = 3 + 7 * 31;
 
-/// The seat, the site, the turn count, the decisions of 8 seats, how many stages are open, and one stage; 256 numbers; how many cards
-/// or references each of 256 locations has, of those that aren't seen how many are known, and the faces of three times 512.
+/// The seat, the site, the turn count, the decisions of 8 seats, how many stages are open, and one stage; 256 numbers;
+/// how many cards or references each of 256 locations has, of those that aren't seen how many are known, and the faces
+/// of three times 512.
 const KEY: usize = 1 + 1 + 4 + 8 * 4 + 1 + 5 + 256 * 4 + 256 * 2 + UNSEEN * 2 + 3 * 512 * 2;
 
 /// Fails unless a seat's view is known by so many bytes.
@@ -196,7 +202,8 @@ fn expect_key(
     Ok(())
 }
 
-/// It is made anew at its first decision, with a copied table. That goes on, and each seat's view is made, copied and told in bytes.
+/// It is made anew at its first decision, with a copied table. That goes on, and each seat's view is made, copied and
+/// told in bytes.
 #[test]
 fn the_largest_sheet_is_played_copied_and_seen(rt: HostRuntime) -> Result<(), Fail> {
     let basis = largest_basis(rt.alloc())?;
@@ -211,7 +218,8 @@ fn the_largest_sheet_is_played_copied_and_seen(rt: HostRuntime) -> Result<(), Fa
     Ok(())
 }
 
-/// Machines of both kinds that are made by their parts, at the start and at the first decision, stand where the match does.
+/// Machines of both kinds that are made by their parts, at the start and at the first decision, stand where the match
+/// does.
 #[test]
 fn machines_are_made_by_their_parts(rt: HostRuntime) -> Result<(), Fail> {
     let basis = basis_in(rt.alloc(), GAME)?;

@@ -1,4 +1,5 @@
-//! Menus: of a choice that offers more than a menu has, and of guards and domains that don't read the variables around them.
+//! Menus: of a choice that offers more than a menu has, and of guards and domains that don't read the variables around
+//! them.
 use crate::expect::expect_same;
 use crate::largest::{code_on, flat_first};
 use crate::matches::{go_on, start_of};
@@ -7,10 +8,11 @@ use rc_rules::{Machine, MatchDealer, Menu};
 use std::process::Abort;
 use std::test::Fail;
 
-/// A hundred cards in a pile, where a card's place is its value of A and then its value of B, and a choice of the first of three players.
-/// Its alternatives offer: all cards but ten; each group to each of the other players; the one group of which a guard asks; all groups; all
-/// players, since the pile is full; none, since it isn't empty; the fifth card of a filter to each player; all cards to each of the other
-/// players, of which 129 are among the first 256 items; and behind them what nobody asks.
+/// A hundred cards in a pile, where a card's place is its value of A and then its value of B, and a choice of the first
+/// of three players. Its alternatives offer: all cards but ten; each group to each of the other players; the one group
+/// of which a guard asks; all groups; all players, since the pile is full; none, since it isn't empty; the fifth card
+/// of a filter to each player; all cards to each of the other players, of which 129 are among the first 256 items; and
+/// behind them what nobody asks.
 const OFFERS: &[u8] = b"(game (setup (create players 3)
   (create deck (game vloc PILE) (deck (A (0 1 2 3 4 5 6 7 8 9)) (B (0 1 2 3 4 5 6 7 8 9)))))
   (stage player (end (= 0 1))

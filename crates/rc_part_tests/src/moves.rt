@@ -23,9 +23,9 @@ pub const MOVES: &[u8] = b"\
 
 /// What PILE, LEFT and RIGHT hold at the first decision, from bottom to top, by moving one card after another by hand.
 ///
-/// All cards go to the bottom of LEFT, so that it holds them from 23 down to 0. Those from 15 down to 8 go on top of RIGHT, and from
-/// there, the lowest first, to its bottom, so that they come to stand the other way round. Those from 7 down to 0 go to the bottom
-/// of LEFT, and the others there, 23 down to 16, to its top, as they are.
+/// All cards go to the bottom of LEFT, so that it holds them from 23 down to 0. Those from 15 down to 8 go on top of
+/// RIGHT, and from there, the lowest first, to its bottom, so that they come to stand the other way round. Those from 7
+/// down to 0 go to the bottom of LEFT, and the others there, 23 down to 16, to its top, as they are.
 const MOVED: [&[u16]; 3] = [
     &[],
     &[0, 1, 2, 3, 4, 5, 6, 7, 23, 22, 21, 20, 19, 18, 17, 16],

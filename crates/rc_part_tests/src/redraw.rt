@@ -17,12 +17,14 @@ use std::test::Fail;
 /// What the locations hold at the first decision: STOCK, the two hands, OPEN, MARKS and PILE, from bottom to top.
 const DEALT: [&[u16]; 6] = [&[0, 1], &[9, 7], &[8, 6], &[5, 4], &[5, 4], &[3, 2]];
 
-/// And in the table that is redrawn for the first seat, which sees the faces 3 and 0 in its hand and 3 and 1 in OPEN and in MARKS.
+/// And in the table that is redrawn for the first seat, which sees the faces 3 and 0 in its hand and 3 and 1 in OPEN
+/// and in MARKS.
 ///
-/// The cards in its hand are then 3 and 0. Those in OPEN are 5, since 3 is taken, and 1. A reference is the smallest card of its
-/// face, taken or not. The other cards are 2, 4, 6, 7, 8 and 9. By a ChaCha8 written apart from this program, the first words of
-/// the key are 1,920,058,440, 964,124,046, 3,400,814,795, 630,099,665 and 3,488,503,945. A word w chooses place w * n / 2^32 of the
-/// first n, with n from 6 down to 2, and the card there changes places with the last of the n:
+/// The cards in its hand are then 3 and 0. Those in OPEN are 5, since 3 is taken, and 1. A reference is the smallest
+/// card of its face, taken or not. The other cards are 2, 4, 6, 7, 8 and 9. By a ChaCha8 written apart from this
+/// program, the first words of the key are 1,920,058,440, 964,124,046, 3,400,814,795, 630,099,665 and 3,488,503,945. A
+/// word w chooses place w * n / 2^32 of the first n, with n from 6 down to 2, and the card there changes places with
+/// the last of the n:
 ///
 /// - place 2 of 6: 2 4 9 7 8 6
 /// - place 1 of 5: 2 8 9 7 4 6

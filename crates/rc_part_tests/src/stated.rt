@@ -9,8 +9,8 @@ use rc_games::ROWS;
 use rc_rules::{Dealer, Machine, Stop};
 use std::test::Fail;
 
-/// Puts a list of four items into an order: the first list that it is handed into one, and each later list into another. It leaves
-/// lists of other lengths as they are.
+/// Puts a list of four items into an order: the first list that it is handed into one, and each later list into
+/// another. It leaves lists of other lengths as they are.
 #[derive(Drop)]
 struct Stated {
     later: bool,
@@ -40,8 +40,8 @@ fn put_four(later: bool, list: &mut [u16])
     }
 }
 
-/// Place by place, each row then has the card that stood at the place which the order of its shuffle tells: 2, 0, 3, 1 in the first
-/// row, of the cards 0 to 3, and 1, 2, 0, 3 in the second one, of the cards 4 to 7.
+/// Place by place, each row then has the card that stood at the place which the order of its shuffle tells: 2, 0, 3, 1
+/// in the first row, of the cards 0 to 3, and 1, 2, 0, 3 in the second one, of the cards 4 to 7.
 const SHUFFLED: [&[u16]; 2] = [&[2, 0, 3, 1], &[5, 6, 4, 7]];
 
 #[test]

@@ -10,8 +10,8 @@ use std::process::Abort;
 use std::sync::Arc;
 use std::test::Fail;
 
-/// The records of the two matches. Whatever is chosen, both players play all their cards in the end. So in each choice all items have
-/// the same total, and the first one is taken.
+/// The records of the two matches. Whatever is chosen, both players play all their cards in the end. So in each choice
+/// all items have the same total, and the first one is taken.
 const FIRST: &[u8] = b"\
 match 0 deal 0 seats 7
 choose 0 0 0 2
@@ -112,8 +112,8 @@ fn take_turn(
     Ok(turn)
 }
 
-/// Fails unless a match with four choices finds what it asks at these, and is recorded so. Where it finds nothing it keeps what it played
-/// out, and loses it or not.
+/// Fails unless a match with four choices finds what it asks at these, and is recorded so. Where it finds nothing it
+/// keeps what it played out, and loses it or not.
 fn expect_match(
     rt: &(impl AllocGlobal + Abort),
     house: &mut House,
@@ -136,8 +136,8 @@ fn expect_match(
     Ok(())
 }
 
-/// The first match finds nothing, and the second one what the first one kept, where that isn't lost. Each of the four entries is lost in
-/// both matches, or not.
+/// The first match finds nothing, and the second one what the first one kept, where that isn't lost. Each of the four
+/// entries is lost in both matches, or not.
 #[test]
 fn matches_are_the_same_whatever_is_lost(rt: HostRuntime) -> Result<(), Fail> {
     for lost in 0..16u8 {

@@ -1,5 +1,5 @@
-//! The same match twice, between two seats that roll out. The seats have two cards each, so that each decision of a match asks something
-//! else.
+//! The same match twice, between two seats that roll out. The seats have two cards each, so that each decision of a
+//! match asks something else.
 ghost use Rattle.std.specs.Prelude.{◌≡◌, length, IfOk};
 
 use rc_games::{GAME, basis_in};

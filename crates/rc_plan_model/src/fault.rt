@@ -1,7 +1,7 @@
 //! What may be wrong with a plan.
 
-/// What is wrong at a place of a form that is to be a plan, or behind it. Shape and Number are looked for together, and then
-/// each further kind by itself, in this order.
+/// What is wrong at a place of a form that is to be a plan, or behind it. Shape and Number are looked for together, and
+/// then each further kind by itself, in this order.
 #[derive(Clone, Copy, PartialEq, Eq, Hash, Debug)]
 pub enum PlanKind {
     /// A part is no form of its place.

@@ -39,7 +39,8 @@ fn push_spot(
     loc: &Loc,
 ) -> Result<(), AllocError>
     ensures { OnOk result (out.new.bytes.items ≡ out.old.bytes.items
-        ++ 32 ∷ printed (spot_form (naming_seen sheet.now) (bound_seen sheet.now bound.now) (end_seen end) (loc_seen loc.now))) }
+        ++ 32 ∷ printed (spot_form (naming_seen sheet.now) (bound_seen sheet.now bound.now) (end_seen end)
+        (loc_seen loc.now))) }
 {
     match end {
         End::Top => push_at(out, sheet, bound, "top", loc),
@@ -167,7 +168,8 @@ fn push_effect(
     effect: &Effect,
 ) -> Result<(), AllocError>
     ensures { OnOk result (out.new.bytes.items ≡ out.old.bytes.items
-        ++ 32 ∷ printed (effect_form (naming_seen sheet.now) (bound_seen sheet.now bound.now) (effect_seen effect.now))) }
+        ++ 32 ∷ printed (effect_form (naming_seen sheet.now) (bound_seen sheet.now bound.now)
+        (effect_seen effect.now))) }
 {
     match effect {
         Effect::Move(card, end, loc) => push_placed(out, sheet, bound, "move", card, *end, loc),

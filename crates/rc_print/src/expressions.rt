@@ -121,7 +121,8 @@ fn push_by_map(
     map: u16,
 ) -> Result<(), AllocError>
     ensures { OnOk result (out.new.bytes.items ≡ out.old.bytes.items
-        ++ 32 ∷ printed (row (atom head.now ∷ coll_form (naming_seen sheet.now) (bound_seen sheet.now bound.now) (coll_seen cards.now)
+        ++ 32 ∷ printed (row (atom head.now
+        ∷ coll_form (naming_seen sheet.now) (bound_seen sheet.now bound.now) (coll_seen cards.now)
         ∷ keyword "using" ∷ named (naming_seen sheet.now).names.maps map ∷ []))) }
 {
     out.open_part(head)?;
@@ -194,7 +195,8 @@ fn push_union(
     parts: &Vec<CollExpr>,
 ) -> Result<(), AllocError>
     ensures { OnOk result (out.new.bytes.items ≡ out.old.bytes.items
-        ++ 32 ∷ printed (row (keyword "union" ∷ coll_forms (naming_seen sheet.now) (bound_seen sheet.now bound.now) (colls_seen parts.now.items)))) }
+        ++ 32 ∷ printed (row (keyword "union"
+        ∷ coll_forms (naming_seen sheet.now) (bound_seen sheet.now bound.now) (colls_seen parts.now.items)))) }
 {
     out.open_part("union")?;
     for cards in parts {
@@ -244,7 +246,8 @@ fn push_points(
     map: u16,
 ) -> Result<(), AllocError>
     ensures { OnOk result (out.new.bytes.items ≡ out.old.bytes.items
-        ++ 32 ∷ printed (row (keyword "points" ∷ card_form (naming_seen sheet.now) (bound_seen sheet.now bound.now) (card_seen card.now)
+        ++ 32 ∷ printed (row (keyword "points"
+        ∷ card_form (naming_seen sheet.now) (bound_seen sheet.now bound.now) (card_seen card.now)
         ∷ keyword "using" ∷ named (naming_seen sheet.now).names.maps map ∷ []))) }
 {
     out.open_part("points")?;
@@ -278,7 +281,8 @@ fn close_with_int(
     int: &IntExpr,
 ) -> Result<(), AllocError>
     ensures { OnOk result (out.new.bytes.items ≡ out.old.bytes.items
-        ++ 32 ∷ printed (int_form (naming_seen sheet.now) (bound_seen sheet.now bound.now) (int_seen int.now)) ++ 41 ∷ []) }
+        ++ 32 ∷ printed (int_form (naming_seen sheet.now) (bound_seen sheet.now bound.now) (int_seen int.now))
+        ++ 41 ∷ []) }
 {
     push_int(out, sheet, bound, int)?;
     out.close()
@@ -341,7 +345,8 @@ fn push_is(
     value: u16,
 ) -> Result<(), AllocError>
     ensures { OnOk result (out.new.bytes.items ≡ out.old.bytes.items
-        ++ 32 ∷ printed (row (keyword "is" ∷ card_form (naming_seen sheet.now) (bound_seen sheet.now bound.now) (card_seen card.now)
+        ++ 32 ∷ printed (row (keyword "is"
+        ∷ card_form (naming_seen sheet.now) (bound_seen sheet.now bound.now) (card_seen card.now)
         ∷ named (naming_seen sheet.now).names.attrs attr ∷ named (naming_seen sheet.now).names.values value ∷ []))) }
 {
     out.open_part("is")?;
@@ -360,7 +365,8 @@ fn push_not(
     test: &Test,
 ) -> Result<(), AllocError>
     ensures { OnOk result (out.new.bytes.items ≡ out.old.bytes.items
-        ++ 32 ∷ printed (row (keyword "not" ∷ test_form (naming_seen sheet.now) (bound_seen sheet.now bound.now) (test_seen test.now) ∷ []))) }
+        ++ 32 ∷ printed (row (keyword "not"
+        ∷ test_form (naming_seen sheet.now) (bound_seen sheet.now bound.now) (test_seen test.now) ∷ []))) }
 {
     out.open_part("not")?;
     push_test(out, sheet, bound, test)?;
@@ -377,7 +383,8 @@ fn push_sides(
     test: &Test,
 ) -> Result<(), AllocError>
     ensures { OnOk result (out.new.bytes.items ≡ out.old.bytes.items
-        ++ 32 ∷ printed (row (atom head.now ∷ sides (naming_seen sheet.now) (bound_seen sheet.now bound.now) (test_seen test.now)))) }
+        ++ 32 ∷ printed (row (atom head.now
+        ∷ sides (naming_seen sheet.now) (bound_seen sheet.now bound.now) (test_seen test.now)))) }
 {
     match test {
         Test::EqInt(a, b) => {
@@ -411,7 +418,8 @@ fn push_attr_of(
     attr: u16,
 ) -> Result<(), AllocError>
     ensures { OnOk result (out.new.bytes.items ≡ out.old.bytes.items
-        ++ 32 ∷ printed (attr_form (naming_seen sheet.now) (card_form (naming_seen sheet.now) (bound_seen sheet.now bound.now) (card_seen card.now)) attr)) }
+        ++ 32 ∷ printed (attr_form (naming_seen sheet.now)
+        (card_form (naming_seen sheet.now) (bound_seen sheet.now bound.now) (card_seen card.now)) attr)) }
 {
     out.open_part("attr")?;
     push_card(out, sheet, bound, card)?;
@@ -429,7 +437,8 @@ fn push_tests(
     tests: &Vec<Test>,
 ) -> Result<(), AllocError>
     ensures { OnOk result (out.new.bytes.items ≡ out.old.bytes.items
-        ++ 32 ∷ printed (row (atom head.now ∷ test_forms (naming_seen sheet.now) (bound_seen sheet.now bound.now) (tests_seen tests.now.items)))) }
+        ++ 32 ∷ printed (row (atom head.now
+        ∷ test_forms (naming_seen sheet.now) (bound_seen sheet.now bound.now) (tests_seen tests.now.items)))) }
 {
     out.open_part(head)?;
     for test in tests {
@@ -467,7 +476,8 @@ fn close_within(
     test: &Test,
 ) -> Result<(), AllocError>
     ensures { OnOk result (out.new.bytes.items ≡ out.old.bytes.items
-        ++ 32 ∷ printed (test_form (naming_seen sheet.now) (binding (naming_seen sheet.now) (bound_seen sheet.now bound.now) var)
+        ++ 32 ∷ printed (test_form (naming_seen sheet.now)
+        (binding (naming_seen sheet.now) (bound_seen sheet.now bound.now) var)
         (test_seen test.now)) ++ 41 ∷ []) }
 {
     let within = behind(out, sheet, bound, var)?;
@@ -483,7 +493,8 @@ pub fn push_domain(
     domain: &Domain,
 ) -> Result<(), AllocError>
     ensures { OnOk result (out.new.bytes.items ≡ out.old.bytes.items
-        ++ 32 ∷ printed (domain_form (naming_seen sheet.now) (bound_seen sheet.now bound.now) (domain_seen domain.now))) }
+        ++ 32 ∷ printed (domain_form (naming_seen sheet.now) (bound_seen sheet.now bound.now)
+        (domain_seen domain.now))) }
 {
     match domain {
         Domain::Players => out.keyword(" player"),
@@ -502,7 +513,8 @@ fn push_parts(
     attr: u16,
 ) -> Result<(), AllocError>
     ensures { OnOk result (out.new.bytes.items ≡ out.old.bytes.items
-        ++ 32 ∷ printed (row (keyword "partition" ∷ coll_form (naming_seen sheet.now) (bound_seen sheet.now bound.now) (coll_seen cards.now)
+        ++ 32 ∷ printed (row (keyword "partition"
+        ∷ coll_form (naming_seen sheet.now) (bound_seen sheet.now bound.now) (coll_seen cards.now)
         ∷ named (naming_seen sheet.now).names.attrs attr ∷ []))) }
 {
     out.open_part("partition")?;

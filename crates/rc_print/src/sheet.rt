@@ -13,8 +13,8 @@ use rc_ast::{Best, Sheet};
 use rc_deck::Memory;
 use std::alloc::{AllocError, Global};
 
-/// The text of a sheet on one line, without the line's end: one space between parts and none elsewhere, the lines of the
-/// setup in the order players, teams, decks, points, and numbers without leading zeros.
+/// The text of a sheet on one line, without the line's end: one space between parts and none elsewhere, the lines of
+/// the setup in the order players, teams, decks, points, and numbers without leading zeros.
 ///
 /// # Errors
 ///

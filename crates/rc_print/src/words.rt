@@ -57,7 +57,8 @@ pub fn push_variable(
     bound: &[Variable],
     place: u8,
 ) -> Result<(), AllocError>
-    ensures { OnOk result (out.new.bytes.items ≡ out.old.bytes.items ++ printed (named (bound_seen sheet.now bound.now) place)) }
+    ensures { OnOk result (out.new.bytes.items
+        ≡ out.old.bytes.items ++ printed (named (bound_seen sheet.now bound.now) place)) }
 {
     if usize::from(place) < bound.len() {
         match bound[usize::from(place)] {
@@ -130,7 +131,8 @@ pub fn push_part_who(
 
 /// Adds the word of the kind that the locations of this name have.
 pub fn push_kind(out: &mut Printer, sheet: &Sheet, name: u16) -> Result<(), AllocError>
-    ensures { OnOk result (out.new.bytes.items ≡ out.old.bytes.items ++ printed (kind_form (naming_seen sheet.now) name)) }
+    ensures { OnOk result (out.new.bytes.items
+        ≡ out.old.bytes.items ++ printed (kind_form (naming_seen sheet.now) name)) }
 {
     match sheet.locs.get(usize::from(name)) {
         Some(loc) => match loc.kind {

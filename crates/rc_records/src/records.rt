@@ -22,8 +22,8 @@ use std::alloc::Global;
 use std::sync::Arc;
 use std::sync::ledger::Ledger;
 
-/// The records of a plan's matches, in order, by any chooser, on code that stands for the sheet, with what their choices bind, where
-/// that is to be noted. Memory may run out.
+/// The records of a plan's matches, in order, by any chooser, on code that stands for the sheet, with what their
+/// choices bind, where that is to be noted. Memory may run out.
 pub fn records_of<C: Chooser, L: Ledger>(
     alloc: Global,
     about: &Arc<About>,
@@ -40,11 +40,15 @@ pub fn records_of<C: Chooser, L: Ledger>(
     ensures are { IfOk result (λ records. map played_seen records.items
         ≡ records_below about.now.value (plan_seen plan.now.value) (length plan.now.value.matches.items)) }
     ensures count { IfOk result (λ records. length records.items ≡ length plan.now.value.matches.items) }
-    ensures each { IfOk result (λ records. All (λ p. length p.record.scores.items ≡ about.now.value.sheet.players) records.items) }
-    ensures noted { IfOk result (λ records. All (IsNotedAs noted about.now.value (plan_seen plan.now.value)) records.items) }
-    ensures asked { OnOk result (AsksAll (looks_below about.now.value (plan_seen plan.now.value) (length plan.now.value.matches.items))
+    ensures each { IfOk result (λ records. All
+        (λ p. length p.record.scores.items ≡ about.now.value.sheet.players) records.items) }
+    ensures noted { IfOk result (λ records. All
+        (IsNotedAs noted about.now.value (plan_seen plan.now.value)) records.items) }
+    ensures asked { OnOk result (AsksAll
+        (looks_below about.now.value (plan_seen plan.now.value) (length plan.now.value.matches.items))
         (C.counts chooser.old) (C.counts chooser.new) steps.old steps.new) }
-    ensures lacking { OnErr result (AsksSome (looks_below about.now.value (plan_seen plan.now.value) (length plan.now.value.matches.items))
+    ensures lacking { OnErr result (AsksSome
+        (looks_below about.now.value (plan_seen plan.now.value) (length plan.now.value.matches.items))
         (C.counts chooser.old) (C.counts chooser.new) steps.old steps.new) }
 {
     let mut records = Vec::new(alloc);
@@ -55,8 +59,8 @@ pub fn records_of<C: Chooser, L: Ledger>(
     Ok(records)
 }
 
-/// The record of one match, by any chooser, on code that stands for the sheet, with what its choices bind, where that is to be noted.
-/// Memory may run out.
+/// The record of one match, by any chooser, on code that stands for the sheet, with what its choices bind, where that
+/// is to be noted. Memory may run out.
 pub fn record_of<C: Chooser, L: Ledger>(
     alloc: Global,
     about: &Arc<About>,
@@ -71,7 +75,8 @@ pub fn record_of<C: Chooser, L: Ledger>(
     requires served { C.serves chooser.old about.now.value }
     requires number { number < length plan.now.value.matches.items }
     requires seats { length plan.now.value.strategies.items ≡ about.now.value.sheet.players }
-    ensures is { IfOk result (λ p. keyed_match about.now.value (plan_seen plan.now.value) number ≡ Some (played_seen p)) }
+    ensures is { IfOk result (λ p. keyed_match about.now.value (plan_seen plan.now.value) number
+        ≡ Some (played_seen p)) }
     ensures each { IfOk result (λ p. length p.record.scores.items ≡ about.now.value.sheet.players) }
     ensures noted { IfOk result (IsNoted noted about.now.value (plan_seen plan.now.value) number) }
     ensures asked { OnOk result (AsksAll (asks_of about.now.value (plan_seen plan.now.value) number)

@@ -13,9 +13,9 @@ use rc_rules::{Bounds, MatchRecord, Plan};
 use rc_text::{HouseText, NamedText, standings};
 use std::alloc::Global;
 
-/// The matches of a plan as they were played, with the standings, and a list of what its choices bind for each match, or no list
-/// where that wasn't noted; and the totals of the book that they were played by: how many of their decisions asked for playouts, and
-/// how many of these it had.
+/// The matches of a plan as they were played, with the standings, and a list of what its choices bind for each match,
+/// or no list where that wasn't noted; and the totals of the book that they were played by: how many of their decisions
+/// asked for playouts, and how many of these it had.
 #[derive(Drop)]
 pub struct Series {
     pub named: NamedText,

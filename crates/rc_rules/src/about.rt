@@ -15,8 +15,8 @@ use std::alloc::Global;
 use std::marker::Model;
 use std::sync::Arc;
 
-/// A checked sheet, its shape and the turn limit, with what its names and cards come to. Contracts see the first three as the
-/// definitions of play have them.
+/// A checked sheet, its shape and the turn limit, with what its names and cards come to. Contracts see the first three
+/// as the definitions of play have them.
 pub struct About {
     checked: Arc<Checked>,
     shape: Arc<Shape>,

@@ -10,7 +10,8 @@ ghost use Rattle.rc_play_model.specs.Keyed.{dealing_of};
 use rc_draw::put_in_order;
 use std::marker::Model;
 
-/// Permutes lists. How it does so no call changes; which order the next list takes is a matter of the state in which it is.
+/// Permutes lists. How it does so no call changes; which order the next list takes is a matter of the state in which it
+/// is.
 pub trait Dealer {
     ghost dealing: { Self → Dealing ℕ };
 
@@ -20,12 +21,14 @@ pub trait Dealer {
     fn shuffle(&mut self, list: &mut [u16])
         requires few { length list.old ≤ most_cards }
         ensures taken { list.new ≡ taken ((dealing self.old).order (state self.old) (length list.old)) list.old }
-        ensures order { IsPermutation (below (length list.old)) ((dealing self.old).order (state self.old) (length list.old)) }
+        ensures order { IsPermutation (below (length list.old))
+            ((dealing self.old).order (state self.old) (length list.old)) }
         ensures next { state self.new ≡ (dealing self.old).next (state self.old) (length list.old) }
         ensures same { dealing self.new ≡ dealing self.old };
 }
 
-/// The dealer of a match: the j-th of its shuffles, from 0, goes by a key of the match's seed and j. It counts modulo 2^32.
+/// The dealer of a match: the j-th of its shuffles, from 0, goes by a key of the match's seed and j. It counts modulo
+/// 2^32.
 #[derive(Debug, Drop)]
 pub struct MatchDealer {
     deal: u64,

@@ -1,4 +1,5 @@
-//! The rules of play: what a match is played by, where it stands, what it offers, who shuffles, and what comes out of it.
+//! The rules of play: what a match is played by, where it stands, what it offers, who shuffles, and what comes out of
+//! it.
 #![tactic(auto)]
 
 mod about;

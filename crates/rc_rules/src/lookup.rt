@@ -42,8 +42,8 @@ fn place_at(ranges: &[Range], name: u16, wanted: Class, owner: u8) -> Option<u16
     }
 }
 
-/// For each name of a location or number its places, for each stage its class, for each attribute the value of each card, and for
-/// each point map what each card is worth.
+/// For each name of a location or number its places, for each stage its class, for each attribute the value of each
+/// card, and for each point map what each card is worth.
 pub struct Lookup {
     pub(crate) locs: Vec<Range>,
     pub(crate) nums: Vec<Range>,
@@ -138,8 +138,10 @@ pub fn lookup_of(alloc: Global, sheet: &Sheet, shape: &Shape) -> Result<Lookup, 
 }
 
 fn loc_ranges(alloc: Global, sheet: &Sheet) -> Result<Vec<Range>, Memory>
-    requires limit { sum_by (λ loc. pure_owner_count (sheet_seen sheet.now) loc.class) (sheet_seen sheet.now).locs ≤ most_locations }
-    ensures { IfOk result (λ list. ranges_seen list.items ≡ ranges_from (sheet_seen sheet.now) 0 (map (λ loc. loc.class) (sheet_seen sheet.now).locs)) }
+    requires limit { sum_by (λ loc. pure_owner_count (sheet_seen sheet.now) loc.class) (sheet_seen sheet.now).locs
+        ≤ most_locations }
+    ensures { IfOk result (λ list. ranges_seen list.items
+        ≡ ranges_from (sheet_seen sheet.now) 0 (map (λ loc. loc.class) (sheet_seen sheet.now).locs)) }
 {
     let mut list = Vec::new(alloc);
     let mut first = 0usize;
@@ -157,8 +159,10 @@ fn loc_ranges(alloc: Global, sheet: &Sheet) -> Result<Vec<Range>, Memory>
 }
 
 fn num_ranges(alloc: Global, sheet: &Sheet) -> Result<Vec<Range>, Memory>
-    requires limit { sum_by (λ num. pure_owner_count (sheet_seen sheet.now) num.class) (sheet_seen sheet.now).nums ≤ most_numbers }
-    ensures { IfOk result (λ list. ranges_seen list.items ≡ ranges_from (sheet_seen sheet.now) 0 (map (λ num. num.class) (sheet_seen sheet.now).nums)) }
+    requires limit { sum_by (λ num. pure_owner_count (sheet_seen sheet.now) num.class) (sheet_seen sheet.now).nums
+        ≤ most_numbers }
+    ensures { IfOk result (λ list. ranges_seen list.items
+        ≡ ranges_from (sheet_seen sheet.now) 0 (map (λ num. num.class) (sheet_seen sheet.now).nums)) }
 {
     let mut list = Vec::new(alloc);
     let mut first = 0usize;
@@ -226,7 +230,8 @@ fn value_of(shape: &Shape, id: u16, name: u16) -> Option<u16>
 // What all cards are worth, point map by point map.
 fn worth_rows(alloc: Global, sheet: &Sheet, shape: &Shape) -> Result<Vec<Vec<i64>>, Memory>
     requires clamped { All (All (λ entry. IsWithinClamp entry.points)) (sheet_seen sheet.now).points }
-    ensures { IfOk result (λ rows. rows_seen rows.items ≡ map (worth_row shape.now.faces) (sheet_seen sheet.now).points) }
+    ensures { IfOk result (λ rows. rows_seen rows.items
+        ≡ map (worth_row shape.now.faces) (sheet_seen sheet.now).points) }
 {
     let mut rows = Vec::new(alloc);
     for place in 0..sheet.points.len() {

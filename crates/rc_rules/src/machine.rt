@@ -19,8 +19,8 @@ use crate::menu::{Menu, Scores};
 use rc_deck::Memory;
 use rc_table::Table;
 
-/// Plays a match of an about, from stop to stop. No call changes the about. A machine that lacked memory is spent: it answers
-/// Memory from then on, and nothing may be asked of it.
+/// Plays a match of an about, from stop to stop. No call changes the about. A machine that lacked memory is spent: it
+/// answers Memory from then on, and nothing may be asked of it.
 pub trait Machine {
     ghost about: { Self → PureAbout };
 
@@ -28,9 +28,9 @@ pub trait Machine {
 
     ghost spent: { Self → Bool };
 
-    /// Goes on to the next stop: a decision at a menu that has an item, below the turn limit; the end, where nothing is left to
-    /// run; or the turn limit. At a stop it answers the same and changes nothing. Where it lacks memory the dealer is in a state
-    /// that shuffles lead to.
+    /// Goes on to the next stop: a decision at a menu that has an item, below the turn limit; the end, where nothing is
+    /// left to run; or the turn limit. At a stop it answers the same and changes nothing. Where it lacks memory the
+    /// dealer is in a state that shuffles lead to.
     fn advance<D: Dealer>(&mut self, dealer: &mut D) -> Result<Stop, Memory>
         ensures leads { IfOk result
             (λ stop. stop_of (about self.old) (D.dealing dealer.old) (D.state dealer.old) (config self.old)
@@ -63,8 +63,8 @@ pub trait Machine {
         requires offered { item < length (menu_here (about self.now) (config self.now)) }
         ensures { bounds_seen result ≡ bounds_here (about self.now) item (config self.now) };
 
-    /// Takes an item of the menu and does its effects. The match then stands behind the decision, and `advance` goes on. Where it
-    /// lacks memory the dealer is in a state that shuffles lead to. Of a spent machine nothing is asked.
+    /// Takes an item of the menu and does its effects. The match then stands behind the decision, and `advance` goes
+    /// on. Where it lacks memory the dealer is in a state that shuffles lead to. Of a spent machine nothing is asked.
     fn apply<D: Dealer>(&mut self, item: u16, dealer: &mut D) -> Result<(), Memory>
         requires decision { spent self.old ≡ false → StandsAtDecision (about self.old) (config self.old) }
         requires offered { spent self.old ≡ false → item < length (menu_here (about self.old) (config self.old)) }

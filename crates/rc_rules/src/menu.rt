@@ -40,8 +40,8 @@ impl Item {
 /// The first 256 items that a choice offers.
 pub type Menu = ArrayVec<Item, MOST_ITEMS>;
 
-/// A menu in a machine: room for 256 items that is taken once. Nothing of it is filled before an item comes, and no memory is taken
-/// later.
+/// A menu in a machine: room for 256 items that is taken once. Nothing of it is filled before an item comes, and no
+/// memory is taken later.
 #[derive(Drop)]
 pub struct Items {
     list: Vec<Item>,

@@ -10,8 +10,9 @@ use crate::control::Control;
 use crate::plan::Strategy;
 use rc_draw::{Purpose, key32, pick_by};
 
-/// The item that a script or a pick by chance takes out of so many, by the seed of the seats, for a seat that decides where the control
-/// says; nothing for a rollout. No view is made for it, since of what the seat sees it asks no more than the control.
+/// The item that a script or a pick by chance takes out of so many, by the seed of the seats, for a seat that decides
+/// where the control says; nothing for a rollout. No view is made for it, since of what the seat sees it asks no more
+/// than the control.
 pub fn offhand_of(
     strategy: &Strategy,
     seed: u64,

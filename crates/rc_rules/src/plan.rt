@@ -8,7 +8,8 @@ use std::alloc::Global;
 /// How a seat chooses among the items of a menu.
 #[derive(Debug)]
 pub enum Strategy {
-    /// The number for each of the seat's decisions in turn, modulo the size of the menu; behind the last number it is 0.
+    /// The number for each of the seat's decisions in turn, modulo the size of the menu; behind the last number it is
+    /// 0.
     Script(Vec<u16>),
     /// A pick by chance that a key of at most 18 digits decides.
     Random { key: u64 },

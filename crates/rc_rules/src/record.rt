@@ -24,7 +24,8 @@ pub struct Score {
     pub points: u8,
 }
 
-/// A match: its number, the seeds of its shuffles and of its seats, and how it was played. Shuffles are counted modulo 2^32.
+/// A match: its number, the seeds of its shuffles and of its seats, and how it was played. Shuffles are counted modulo
+/// 2^32.
 #[derive(Debug, Drop)]
 pub struct MatchRecord {
     pub number: u32,

@@ -23,8 +23,8 @@ use rc_play_model::opening_tables_are_sound;
 use rc_table::{Owner, Place, Shape};
 use std::alloc::Global;
 
-/// The shape of a sheet: its players and their teams, its locations and numbers in the order of their names' first mention and
-/// then by their owners, and its cards in the order of the decks and of their faces.
+/// The shape of a sheet: its players and their teams, its locations and numbers in the order of their names' first
+/// mention and then by their owners, and its cards in the order of the decks and of their faces.
 pub fn shape_of(alloc: Global, sheet: &Sheet) -> Result<Shape, Memory>
     requires { IsWellFormed (sheet_seen sheet.now) }
     ensures { IfOk result (λ shape. shape ≡ play.shape_of (sheet_seen sheet.now)) }
@@ -48,7 +48,8 @@ pub fn shape_of(alloc: Global, sheet: &Sheet) -> Result<Shape, Memory>
 // Each player's team.
 fn team_list(alloc: Global, sheet: &Sheet) -> Result<Vec<u8>, Memory>
     requires { IsWellFormed (sheet_seen sheet.now) }
-    ensures { IfOk result (λ list. list.items ≡ map (play.team_in (sheet_seen sheet.now).teams) (below sheet.now.players)) }
+    ensures { IfOk result (λ list. list.items
+        ≡ map (play.team_in (sheet_seen sheet.now).teams) (below sheet.now.players)) }
 {
     let mut list = Vec::new(alloc);
     for player in 0..sheet.players {
@@ -137,7 +138,8 @@ fn home_list(alloc: Global, sheet: &Sheet) -> Result<Vec<u16>, Memory>
 fn push_homes(sheet: &Sheet, line: &DeckLine, list: &mut Vec<u16>) -> Result<(), Memory>
     requires formed { IsWellFormed (sheet_seen sheet.now) }
     requires few { face_count (groups_of line.now.tree) ≤ most_cards }
-    ensures { OnOk result (list.new.items ≡ list.old.items ++ play.homes_of (sheet_seen sheet.now) (deck_line_seen line.now)) }
+    ensures { OnOk result (list.new.items
+        ≡ list.old.items ++ play.homes_of (sheet_seen sheet.now) (deck_line_seen line.now)) }
 {
     let home = first_loc(sheet, line.loc);
     for _ in 0..card_count(&line.tree) {
@@ -165,8 +167,10 @@ fn first_loc(sheet: &Sheet, name: u16) -> u16
 
 // How many locations these names have.
 fn location_count(sheet: &Sheet, names: &[LocName]) -> usize
-    requires { sum_by (λ name. well.owner_count (sheet_seen sheet.now) name.class) (map loc_name_seen names.now) ≤ most_locations }
-    ensures { result ≡ sum_by (λ name. well.owner_count (sheet_seen sheet.now) name.class) (map loc_name_seen names.now) }
+    requires { sum_by (λ name. well.owner_count (sheet_seen sheet.now) name.class) (map loc_name_seen names.now)
+        ≤ most_locations }
+    ensures { result ≡ sum_by (λ name. well.owner_count (sheet_seen sheet.now) name.class)
+        (map loc_name_seen names.now) }
 {
     let mut count = 0;
     for name in names {

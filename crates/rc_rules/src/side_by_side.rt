@@ -8,8 +8,9 @@ use crate::dealer::Dealer;
 use crate::machine::Machine;
 use rc_deck::Memory;
 
-/// Machines of one about that stand at one configuration, with dealers of one dealing at one state, stop alike: in the same way, at
-/// the same configuration, with the dealers at the same state. Answers both stops, where neither machine lacks memory.
+/// Machines of one about that stand at one configuration, with dealers of one dealing at one state, stop alike: in the
+/// same way, at the same configuration, with the dealers at the same state. Answers both stops, where neither machine
+/// lacks memory.
 pub fn machines_stop_alike<M: Machine, N: Machine, D: Dealer, E: Dealer>(
     one: &mut M,
     other: &mut N,
@@ -23,7 +24,8 @@ pub fn machines_stop_alike<M: Machine, N: Machine, D: Dealer, E: Dealer>(
     ensures stop { IfOk result (λ stops. stop_seen stops.0 ≡ stop_seen stops.1) }
     ensures config { OnOk result (M.config one.new ≡ N.config other.new) }
     ensures state { OnOk result (D.state dealer.new ≡ E.state other_dealer.new) }
-    ensures stands { IfOk result (λ stops. StandsWhereItStops (M.about one.new) (stop_seen stops.0) (M.config one.new)) }
+    ensures stands { IfOk result (λ stops. StandsWhereItStops (M.about one.new) (stop_seen stops.0)
+        (M.config one.new)) }
     ensures fresh { OnOk result (M.spent one.new ≡ false) }
     ensures other_fresh { OnOk result (N.spent other.new ≡ false) }
     ensures same { M.about one.new ≡ M.about one.old }
@@ -36,8 +38,8 @@ pub fn machines_stop_alike<M: Machine, N: Machine, D: Dealer, E: Dealer>(
     Ok((stop?, other_stop?))
 }
 
-/// Machines of one about that stand at one decision, with dealers of one dealing at one state, go alike by the same item: to the same
-/// configuration, with the dealers at the same state, where neither machine lacks memory.
+/// Machines of one about that stand at one decision, with dealers of one dealing at one state, go alike by the same
+/// item: to the same configuration, with the dealers at the same state, where neither machine lacks memory.
 pub fn machines_go_alike<M: Machine, N: Machine, D: Dealer, E: Dealer>(
     one: &mut M,
     other: &mut N,

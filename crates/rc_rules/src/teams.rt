@@ -5,8 +5,8 @@ ghost use Rattle.rc_ast.specs.Sheet.{sheet_seen, teams_seen};
 
 use rc_ast::{Sheet, Teams};
 
-/// The team of a player: the first one that has the player, or how many teams there are, where none has. Without teams each
-/// player is one.
+/// The team of a player: the first one that has the player, or how many teams there are, where none has. Without teams
+/// each player is one.
 pub fn team_in(sheet: &Sheet, player: u8) -> usize
     ensures { result ≡ shape.team_in (sheet_seen sheet.now).teams player }
 {

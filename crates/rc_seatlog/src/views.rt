@@ -39,8 +39,8 @@ pub fn views_of<M: Machine + Drop>(
     views_at(alloc, shape, played.deal, &played.picks, machine, seat)
 }
 
-/// What the seat saw at the first decisions, as many as a log tells. The match isn't gone along behind them, and no view
-/// is kept that the log leaves out.
+/// What the seat saw at the first decisions, as many as a log tells. The match isn't gone along behind them, and no
+/// view is kept that the log leaves out.
 ///
 /// # Errors
 ///
@@ -58,7 +58,8 @@ pub fn first_views_of<M: Machine + Drop>(
     requires seat { seat < shape.now.players }
     requires legal { IsPlayOf (M.about machine) (dealing_of played.now.deal) (map pick_seen played.now.picks.items) }
     ensures { IfOk result (λ views. map view_seen views.items
-        ≡ take most_told (views_in (M.about machine) (dealing_of played.now.deal) seat (map pick_seen played.now.picks.items))) }
+        ≡ take most_told (views_in (M.about machine) (dealing_of played.now.deal) seat
+        (map pick_seen played.now.picks.items))) }
 {
     views_at(
         alloc,

@@ -28,9 +28,10 @@ use std::marker::Brand;
 use std::sync::Arc;
 use std::sync::ledger::Ledger;
 
-/// Plays the matches of a plan for a checked sheet one after the other, on code that is made of the sheet once. The plan is within the
-/// limits, and has a strategy for each player. What choices bind is noted, where that is asked for. What rollouts find is kept in a book of so many entries, 1 to 65,536. Each playout is a
-/// step. Memory may run out; then no more steps were counted than the whole call counts.
+/// Plays the matches of a plan for a checked sheet one after the other, on code that is made of the sheet once. The
+/// plan is within the limits, and has a strategy for each player. What choices bind is noted, where that is asked for.
+/// What rollouts find is kept in a book of so many entries, 1 to 65,536. Each playout is a step. Memory may run out;
+/// then no more steps were counted than the whole call counts.
 pub fn series_of<L: Ledger>(
     alloc: Global,
     checked: Checked,
@@ -42,14 +43,18 @@ pub fn series_of<L: Ledger>(
     requires within { IsWithinLimits (plan_seen plan) }
     requires seats { length (plan_seen plan).strategies ≡ checked.players }
     requires capacity { (1 ≤ capacity) × (capacity ≤ most_entries) }
-    ensures matches { IfOk result (λ series. map record_seen series.named.text.matches.items ≡ matches_of (about_of checked plan.turns) (plan_seen plan)) }
+    ensures matches { IfOk result (λ series. map record_seen series.named.text.matches.items
+        ≡ matches_of (about_of checked plan.turns) (plan_seen plan)) }
     ensures standings { IfOk result (λ series. map standing_seen series.named.text.standings.items
         ≡ standings_of (plan_seen plan) (matches_of (about_of checked plan.turns) (plan_seen plan))) }
     ensures named { IfOk result (λ series. IsTold noted (about_of checked plan.turns) (plan_seen plan) series.named) }
     ensures book { IfOk result (λ series. (series.totals.capacity ≡ capacity) × (series.totals.lanes ≡ 1)) }
-    ensures looks { IfOk result (λ series. series.totals.looks ≡ length (looks_of (about_of checked plan.turns) (plan_seen plan))) }
-    ensures hits { IfOk result (λ series. series.totals.hits ≡ hits (looks_of (about_of checked plan.turns) (plan_seen plan)) capacity) }
-    ensures counted { OnOk result (steps.new ≡ steps.old + cost (looks_of (about_of checked plan.turns) (plan_seen plan)) capacity) }
+    ensures looks { IfOk result (λ series. series.totals.looks
+        ≡ length (looks_of (about_of checked plan.turns) (plan_seen plan))) }
+    ensures hits { IfOk result (λ series. series.totals.hits
+        ≡ hits (looks_of (about_of checked plan.turns) (plan_seen plan)) capacity) }
+    ensures counted { OnOk result (steps.new
+        ≡ steps.old + cost (looks_of (about_of checked plan.turns) (plan_seen plan)) capacity) }
     ensures rises { steps.old ≤ steps.new }
     ensures bounded { steps.new ≤ steps.old + cost (looks_of (about_of checked plan.turns) (plan_seen plan)) capacity }
 {
@@ -86,14 +91,18 @@ fn played<N: BookNaming, L: Ledger>(
     requires name { (about.now.value ≡ N.about) × (capacity ≡ N.capacity) × (1 ≡ N.lanes) }
     requires names { (fresh.looks.name ≡ N.looks) × (fresh.hits.name ≡ N.hits) × (fresh.keeps.name ≡ N.keeps) }
     requires parts { (fresh.looks.parts ≡ N.lanes) × (fresh.hits.parts ≡ N.lanes) × (fresh.keeps.parts ≡ N.lanes) }
-    ensures matches { IfOk result (λ series. map record_seen series.named.text.matches.items ≡ matches_of about.now.value (plan_seen plan.now.value)) }
+    ensures matches { IfOk result (λ series. map record_seen series.named.text.matches.items
+        ≡ matches_of about.now.value (plan_seen plan.now.value)) }
     ensures standings { IfOk result (λ series. map standing_seen series.named.text.standings.items
         ≡ standings_of (plan_seen plan.now.value) (matches_of about.now.value (plan_seen plan.now.value))) }
     ensures named { IfOk result (λ series. IsTold noted about.now.value (plan_seen plan.now.value) series.named) }
     ensures book { IfOk result (λ series. (series.totals.capacity ≡ capacity) × (series.totals.lanes ≡ 1)) }
-    ensures looks { IfOk result (λ series. series.totals.looks ≡ length (looks_of about.now.value (plan_seen plan.now.value))) }
-    ensures hits { IfOk result (λ series. series.totals.hits ≡ hits (looks_of about.now.value (plan_seen plan.now.value)) capacity) }
-    ensures counted { OnOk result (steps.new ≡ steps.old + cost (looks_of about.now.value (plan_seen plan.now.value)) capacity) }
+    ensures looks { IfOk result (λ series. series.totals.looks
+        ≡ length (looks_of about.now.value (plan_seen plan.now.value))) }
+    ensures hits { IfOk result (λ series. series.totals.hits
+        ≡ hits (looks_of about.now.value (plan_seen plan.now.value)) capacity) }
+    ensures counted { OnOk result (steps.new
+        ≡ steps.old + cost (looks_of about.now.value (plan_seen plan.now.value)) capacity) }
     ensures rises { steps.old ≤ steps.new }
     ensures bounded { steps.new ≤ steps.old + cost (looks_of about.now.value (plan_seen plan.now.value)) capacity }
 {

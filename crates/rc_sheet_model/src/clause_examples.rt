@@ -1,5 +1,5 @@
-//! The definitions of sheets, computed on cases that one clause of a definition refuses. No function here does anything:
-//! each has a contract that the check proves by computing.
+//! The definitions of sheets, computed on cases that one clause of a definition refuses. No function here does
+//! anything: each has a contract that the check proves by computing.
 ghost use Rattle.std.specs.Prelude.{◌≡◌, ◌∷◌, [], codes, pos, replicate, true, false};
 ghost use Rattle.rc_sheet_model.specs.Sheet.{player_class, team_class, iloc, vloc, mem, game, current_player, current_team, team_of_current, who_var, card_var, bottom_card, max_card, group_var, cards_in, filtered, union_of, literal, number, worth_of, add, subtract, eq_card, eq_who, ne, less, less_eq, and_of, or_of, all_of, any_of, each_player, each_card, each_group, when, repeat, for_each, next_is, turn_round, do_alt, any_alt, do_item, choice};
 ghost use Rattle.rc_sheet_model.specs.Lists.{colls_from, tests_from, effects_from};
@@ -21,7 +21,8 @@ ghost use Rattle.rc_sheet_model.specs.ClauseExamples.{shuffled, teams_text, of_t
 pub fn ranges()
     ensures some { IsTest parts (around_by [] 0 0) (any_of (each_group (cards_in (loc_at game 0 0)) 0) 2 truth) → ⊥ }
     ensures each { IsTest parts (around_by [] 0 0) (all_of (each_group (cards_in (loc_at game 0 0)) 0) 2 truth) → ⊥ }
-    ensures effect { IsEffect parts (around_by [] 0 0) (for_each (each_group (cards_in (loc_at game 0 0)) 0) 2 (shuffled 0)) → ⊥ }
+    ensures effect { IsEffect parts (around_by [] 0 0)
+        (for_each (each_group (cards_in (loc_at game 0 0)) 0) 2 (shuffled 0)) → ⊥ }
     ensures alternative { IsAlt parts (around_by [] 0 0)
         (any_alt (each_group (cards_in (loc_at game 0 0)) 0) 2 (do_alt (shuffled 0))) }
     ensures unknown { IsAlt parts (around_by [] 0 0)
@@ -30,7 +31,8 @@ pub fn ranges()
 
 /// A variable isn't in scope in what it runs over, where it would have the right sort.
 pub fn own_domains()
-    ensures group { StandsAlt naming [] (any_alt (each_group (group_var 0) 0) 2 (do_alt (effects_from (turn_round ∷ []))))
+    ensures group { StandsAlt naming []
+        (any_alt (each_group (group_var 0) 0) 2 (do_alt (effects_from (turn_round ∷ []))))
         (form_of (codes "(any (partition 'G SUIT) 'G (do (cycle reverse)))")) → ⊥ }
     ensures card { StandsColl naming []
         (filtered (filtered (cards_in (loc_at game 0 16)) 2 (eq_card (card_var 0) (card_var 1))) 1 truth)
@@ -42,7 +44,8 @@ pub fn own_domains()
     ensures no_card_of_a_test { IsTest parts outside
         (any_of (each_card (filtered (cards_in (loc_at game 0 0)) 2 (eq_card (card_var 0) (card_var 1)))) 1 truth) → ⊥ }
     ensures no_card_of_an_effect { IsEffect parts outside
-        (for_each (each_card (filtered (cards_in (loc_at game 0 0)) 2 (eq_card (card_var 0) (card_var 1)))) 1 (shuffled 0)) → ⊥ }
+        (for_each (each_card (filtered (cards_in (loc_at game 0 0)) 2 (eq_card (card_var 0) (card_var 1)))) 1
+        (shuffled 0)) → ⊥ }
     ensures behind { IsColl parts outside
         (filtered (cards_in (loc_at game 0 0)) 1
         (any_of (each_card (filtered (cards_in (loc_at game 0 0)) 2 (eq_card (card_var 0) (card_var 1)))) 0 truth)) }
@@ -76,8 +79,8 @@ pub fn names_counted()
     ensures maps { IsWithinLimits (with_names 0 0 257) → ⊥ }
 {}
 
-/// A sheet may stand for a form with its names numbered otherwise, and is then not numbered by their first mention. Stages and
-/// choices are numbered in the order of the text.
+/// A sheet may stand for a form with its names numbered otherwise, and is then not numbered by their first mention.
+/// Stages and choices are numbered in the order of the text.
 pub fn numbers_of_names()
     ensures other_numbers { Stands renamed (form_of swapped_text) }
     ensures not_by_mention { IsNumbered renamed → ⊥ }
@@ -104,7 +107,8 @@ pub fn depths()
     ensures too_deep { IsOpenAtMost most_open (nested 65) → ⊥ }
 {}
 
-/// Owners inside stages, and in the score. A player's team is named inside a stage of players, and is the next of one of teams.
+/// Owners inside stages, and in the score. A player's team is named inside a stage of players, and is the next of one
+/// of teams.
 pub fn owners_in_stages()
     ensures player { IsOwner (in_stage player_class outside) current_player }
     ensures player_outside { IsOwner outside current_player → ⊥ }
@@ -117,7 +121,8 @@ pub fn owners_in_stages()
     ensures no_stage { IsInt parts scored (number (num_of current_player 0)) → ⊥ }
 {}
 
-/// In the score `'SELF` isn't bound, and isn't one of the four variables that may be. Elsewhere it is a variable like others.
+/// In the score `'SELF` isn't bound, and isn't one of the four variables that may be. Elsewhere it is a variable like
+/// others.
 pub fn own_variable()
     ensures elsewhere { IsBinder binding_self outside 0 }
     ensures in_the_score { IsBinder binding_self scored 0 → ⊥ }
@@ -146,11 +151,15 @@ pub fn faulty_parts()
 
 /// Each part stands in its own place, behind its own head.
 pub fn heads_and_places()
-    ensures difference { StandsInt naming [] (subtract (literal (pos 1)) (literal (pos 2))) (form_of (codes "(- 1 2)")) }
-    ensures turned { StandsInt naming [] (subtract (literal (pos 2)) (literal (pos 1))) (form_of (codes "(- 1 2)")) → ⊥ }
-    ensures sum_as_product { StandsInt naming [] (add (literal (pos 1)) (literal (pos 2))) (form_of (codes "(* 1 2)")) → ⊥ }
+    ensures difference { StandsInt naming [] (subtract (literal (pos 1)) (literal (pos 2)))
+        (form_of (codes "(- 1 2)")) }
+    ensures turned { StandsInt naming [] (subtract (literal (pos 2)) (literal (pos 1))) (form_of (codes "(- 1 2)"))
+        → ⊥ }
+    ensures sum_as_product { StandsInt naming [] (add (literal (pos 1)) (literal (pos 2))) (form_of (codes "(* 1 2)"))
+        → ⊥ }
     ensures at_most { StandsTest naming [] (less_eq (literal (pos 1)) (literal (pos 2))) (form_of (codes "(<= 1 2)")) }
-    ensures less_as_more { StandsTest naming [] (less (literal (pos 1)) (literal (pos 2))) (form_of (codes "(> 1 2)")) → ⊥ }
+    ensures less_as_more { StandsTest naming [] (less (literal (pos 1)) (literal (pos 2))) (form_of (codes "(> 1 2)"))
+        → ⊥ }
     ensures worth { StandsInt naming three (worth_of (card_var 1) 0) (form_of (codes "(points 'C using WORTH)")) }
     ensures best { StandsCard naming three (max_card (group_var 2) 0) (form_of (codes "(max 'G using WORTH)")) }
     ensures other_word { StandsCard naming three (max_card (group_var 2) 0) (form_of (codes "(max 'G by WORTH)")) → ⊥ }

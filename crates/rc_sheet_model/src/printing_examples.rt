@@ -25,7 +25,8 @@ pub fn setup_printed()
 pub fn printed_parts()
     ensures zero { printed (int_form naming [] (literal (neg_ℤ (pos 0)))) ≡ codes "0" }
     ensures negative { printed (int_form naming [] (literal (neg_ℤ (pos 70)))) ≡ codes "-70" }
-    ensures unequal { printed (test_form naming [] (ne (eq_int (literal (neg_ℤ (pos 7))) (number (num_of current_player 0)))))
+    ensures unequal { printed (test_form naming []
+        (ne (eq_int (literal (neg_ℤ (pos 7))) (number (num_of current_player 0)))))
         ≡ codes "(!= -7 ((current player) sto BID))" }
     ensures owners { printed (test_form naming (codes "'P" ∷ []) (eq_who (team_of_var 0) (team_of_var 0)))
         ≡ codes "(= (team of 'P) (team of 'P))" }

@@ -1,4 +1,5 @@
-//! Where a match stands that is played on code, how it stands where it stood before, and the steps at stages, which do no effects.
+//! Where a match stands that is played on code, how it stands where it stood before, and the steps at stages, which do
+//! no effects.
 #![tactic(auto)]
 
 mod marks;

@@ -8,8 +8,8 @@ use std::marker::Model;
 /// Places of stages that stand in one another, from outside to inside.
 pub type Outer = ArrayVec<usize, 64>;
 
-/// The places of the stages whose bodies run, from outside to inside, the instruction that is next, and whether the innermost of
-/// those stages is at a round instead.
+/// The places of the stages whose bodies run, from outside to inside, the instruction that is next, and whether the
+/// innermost of those stages is at a round instead.
 #[derive(Debug, Drop)]
 pub struct Position {
     outer: Outer,
@@ -141,6 +141,11 @@ pub fn write_list<T: Copy + Default + Drop, const CAP: usize>(
 )
     ensures { to.new.items ≡ from.now.items }
 {
+    // where as many stand there already, none is taken away first
+    if to.len() == from.len() {
+        to.as_mut_slice().copy_from_slice(from.as_slice());
+        return;
+    }
     to.clear();
     let _fits = to.try_extend_from_slice(from.as_slice());
 }

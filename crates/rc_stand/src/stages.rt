@@ -20,8 +20,10 @@ impl State {
     pub fn open_next(&mut self, about: &About, code: &[Instruction], number: u16, class: Class)
         requires ready { IsReady about.now (list_seen code.now) self.old }
         requires round { self.old.place.at_round ≡ false }
-        requires here { (end : PureTest) × (inside : ℕ) × (slice_get (list_seen code.now) self.old.place.next ≡ Some (begin_stage number class end inside)) }
-        ensures leads { LeadsTo about.now (config_at about.now (list_seen code.now) self.old) None (config_at about.now (list_seen code.now) self.new) }
+        requires here { (end : PureTest) × (inside : ℕ)
+            × (slice_get (list_seen code.now) self.old.place.next ≡ Some (begin_stage number class end inside)) }
+        ensures leads { LeadsTo about.now (config_at about.now (list_seen code.now) self.old) None
+            (config_at about.now (list_seen code.now) self.new) }
         ensures ready { IsReady about.now (list_seen code.now) self.new }
         ensures keeps { self.new.board ≡ self.old.board }
     {
@@ -29,7 +31,8 @@ impl State {
         self.place.open();
     }
 
-    /// Leaves the stage at this place where its end test holds; else a round of it begins, where the turn limit isn't met.
+    /// Leaves the stage at this place where its end test holds; else a round of it begins, where the turn limit isn't
+    /// met.
     #[inline(always)]
     fn round_next(
         &mut self,
@@ -43,9 +46,11 @@ impl State {
         requires serves { Serves about.now.sheet (list_seen code.now) }
         requires round { self.old.place.at_round ≡ true }
         requires within { (outer : List ℕ) × (self.old.place.outer ≡ outer ++ place ∷ []) }
-        requires here { (number : ℕ) × (class : PureClass) × (slice_get (list_seen code.now) place ≡ Some (begin_stage number class end.now inside)) }
+        requires here { (number : ℕ) × (class : PureClass)
+            × (slice_get (list_seen code.now) place ≡ Some (begin_stage number class end.now inside)) }
         requires fits { place + 1 < 2 ^ 64 }
-        ensures leads { LeadsTo about.now (config_at about.now (list_seen code.now) self.old) result (config_at about.now (list_seen code.now) self.new) }
+        ensures leads { LeadsTo about.now (config_at about.now (list_seen code.now) self.old) result
+            (config_at about.now (list_seen code.now) self.new) }
         ensures ready { IsReady about.now (list_seen code.now) self.new }
         ensures keeps { self.new.board ≡ self.old.board }
     {
@@ -65,14 +70,15 @@ impl State {
         None
     }
 
-    /// Goes on where no item is next: to the round of the innermost stage whose body has ended, and to its next member; where none is
-    /// open nothing is left.
+    /// Goes on where no item is next: to the round of the innermost stage whose body has ended, and to its next member;
+    /// where none is open nothing is left.
     #[inline(always)]
     pub fn leave(&mut self, about: &About, code: &[Instruction]) -> Option<Stop>
         requires ready { IsReady about.now (list_seen code.now) self.old }
         requires round { self.old.place.at_round ≡ false }
         requires end { items_from (drop self.old.place.next (list_seen code.now)) ≡ [] }
-        ensures leads { LeadsTo about.now (config_at about.now (list_seen code.now) self.old) result (config_at about.now (list_seen code.now) self.new) }
+        ensures leads { LeadsTo about.now (config_at about.now (list_seen code.now) self.old) result
+            (config_at about.now (list_seen code.now) self.new) }
         ensures ready { IsReady about.now (list_seen code.now) self.new }
         ensures keeps { self.new.board ≡ self.old.board }
     {
@@ -90,7 +96,8 @@ impl State {
         requires round { self.old.place.at_round ≡ false }
         requires end { items_from (drop self.old.place.next (list_seen code.now)) ≡ [] }
         requires within { (outer : List ℕ) × (self.old.place.outer ≡ outer ++ place ∷ []) }
-        ensures leads { LeadsTo about.now (config_at about.now (list_seen code.now) self.old) None (config_at about.now (list_seen code.now) self.new) }
+        ensures leads { LeadsTo about.now (config_at about.now (list_seen code.now) self.old) None
+            (config_at about.now (list_seen code.now) self.new) }
         ensures ready { IsReady about.now (list_seen code.now) self.new }
         ensures keeps { self.new.board ≡ self.old.board }
     {
@@ -106,7 +113,8 @@ impl State {
         requires serves { Serves about.now.sheet (list_seen code.now) }
         requires ready { IsReady about.now (list_seen code.now) self.old }
         requires round { self.old.place.at_round ≡ true }
-        ensures leads { LeadsTo about.now (config_at about.now (list_seen code.now) self.old) result (config_at about.now (list_seen code.now) self.new) }
+        ensures leads { LeadsTo about.now (config_at about.now (list_seen code.now) self.old) result
+            (config_at about.now (list_seen code.now) self.new) }
         ensures ready { IsReady about.now (list_seen code.now) self.new }
         ensures keeps { self.new.board ≡ self.old.board }
     {

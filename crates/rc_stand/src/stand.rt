@@ -5,7 +5,7 @@ ghost use Rattle.rc_rules.specs.Control.{control_seen, frames_seen};
 ghost use Rattle.rc_rules.specs.Menu.{menu_seen};
 ghost use Rattle.rc_value.specs.Current.{IsCurrent};
 ghost use Rattle.rc_code.specs.Instruction.{Instruction as PureInstruction};
-ghost use Rattle.rc_board.specs.Undo.{gone_home, home_at};
+ghost use Rattle.rc_board.specs.Undo.{away_at, gone_home, home_at};
 ghost use Rattle.rc_stand.specs.Flat.{flat_from};
 ghost use Rattle.rc_stand.specs.State.{flat_of};
 
@@ -38,13 +38,28 @@ impl State {
         self.current = self.current_now(about);
     }
 
+    /// Goes to another table, and stands there as it is told. The home stays. The menu is any, and who is current.
+    pub fn go_to(&mut self, table: &Table, stand: &Stand)
+        requires shape { self.old.board.laid.shape ≡ table.now.shape }
+        requires home { IsSome self.old.board.home }
+        ensures board { self.new.board ≡ away_at table.now self.old.board.home }
+        ensures there { (about : PureAbout) (code : List PureInstruction) →
+            flat_of about code self.new
+            ≡ flat_from about code stand.now.place table.now.table (control_seen stand.now.control) }
+    {
+        self.board.go_to(table);
+        write_control(&stand.control, &mut self.control);
+        self.place.set_to(&stand.place);
+    }
+
     /// Goes to another home with this table, and stands there as it is told. The menu is any, and who is current.
     pub fn move_home(&mut self, table: &Table, stand: &Stand)
         requires shape { self.old.board.laid.shape ≡ table.now.shape }
         requires home { IsSome self.old.board.home }
         ensures board { self.new.board ≡ home_at table.now }
         ensures there { (about : PureAbout) (code : List PureInstruction) →
-            flat_of about code self.new ≡ flat_from about code stand.now.place table.now.table (control_seen stand.now.control) }
+            flat_of about code self.new
+            ≡ flat_from about code stand.now.place table.now.table (control_seen stand.now.control) }
     {
         self.board.move_home(table);
         write_control(&stand.control, &mut self.control);

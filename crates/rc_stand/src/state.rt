@@ -14,8 +14,8 @@ use rc_rules::{About, Control, Items, Scores};
 use rc_state::{has_ended_by, scores_now};
 use rc_value::{Current, current_of};
 
-/// The board, the control, the place in the code, the menu of the decision at which the match stands, and who is current in the open
-/// stages. Where it stands at no decision, the menu is any.
+/// The board, the control, the place in the code, the menu of the decision at which the match stands, and who is
+/// current in the open stages. Where it stands at no decision, the menu is any.
 #[derive(Drop)]
 pub struct State {
     pub board: Board,
@@ -43,7 +43,8 @@ impl State {
         requires laid { self.now.board.laid.shape ≡ about.now.shape }
         requires current { IsCurrent about.now.sheet (frames_seen self.now.control.frames.items) self.now.current }
         requires well { (around : Around) × (around.binders ≡ 0) × IsTest about.now.sheet around end.now }
-        ensures { result ≡ test_value (scene_at about.now self.now.board.laid.table (frames_seen self.now.control.frames.items)) [] end.now }
+        ensures { result ≡ test_value
+            (scene_at about.now self.now.board.laid.table (frames_seen self.now.control.frames.items)) [] end.now }
     {
         has_ended_by(about, self.current, self.board.table(), &self.control, end)
     }

@@ -27,8 +27,10 @@ pub struct ChoiceThere<'c> {
 }
 
 fn stage_in(first: &Instruction) -> StageThere<'_>
-    requires { (number : ℕ) × (class : PureClass) × (end : PureTest) × (inside : ℕ) × (instruction_seen first.now ≡ begin_stage number class end inside) }
-    ensures { (number : ℕ) × (instruction_seen first.now ≡ begin_stage number result.class result.end.now result.inside) }
+    requires { (number : ℕ) × (class : PureClass) × (end : PureTest) × (inside : ℕ)
+        × (instruction_seen first.now ≡ begin_stage number class end inside) }
+    ensures { (number : ℕ) × (instruction_seen first.now
+        ≡ begin_stage number result.class result.end.now result.inside) }
 {
     match first {
         Instruction::Stage {
@@ -54,7 +56,8 @@ fn stage_in(first: &Instruction) -> StageThere<'_>
 /// The stage that begins at a place.
 pub fn stage_there(code: &[Instruction], place: usize) -> StageThere<'_>
     requires { IsStageAt (list_seen code.now) place }
-    ensures there { (number : ℕ) × (slice_get (list_seen code.now) place ≡ Some (begin_stage number result.class result.end.now result.inside)) }
+    ensures there { (number : ℕ) × (slice_get (list_seen code.now) place
+        ≡ Some (begin_stage number result.class result.end.now result.inside)) }
     ensures fits { place + 1 < 2 ^ 64 }
 {
     match code.get(place) {
@@ -64,8 +67,10 @@ pub fn stage_there(code: &[Instruction], place: usize) -> StageThere<'_>
 }
 
 fn choice_in(first: &Instruction) -> ChoiceThere<'_>
-    requires { (site : ℕ) × (alts : List PureAlt) × (blocks : List PureBlock) × (inside : ℕ) × (instruction_seen first.now ≡ offer site alts blocks inside) }
-    ensures { (site : ℕ) × (instruction_seen first.now ≡ offer site result.alts.now (map block_seen result.blocks.now) result.inside) }
+    requires { (site : ℕ) × (alts : List PureAlt) × (blocks : List PureBlock) × (inside : ℕ)
+        × (instruction_seen first.now ≡ offer site alts blocks inside) }
+    ensures { (site : ℕ) × (instruction_seen first.now
+        ≡ offer site result.alts.now (map block_seen result.blocks.now) result.inside) }
 {
     match first {
         Instruction::Choice {

@@ -17,7 +17,8 @@ use rc_value::atom_holds;
 #[inline(never)]
 fn atom_now(context: &Context, atom: &Atom, table: &Table, frames: &Frames) -> bool
     requires stands { Stands context.now table.now frames.now.items }
-    ensures { result ≡ test_value (scene_in context.now table.now frames.now.items) context.now.scope.now (atom_meant atom.now) }
+    ensures { result ≡ test_value (scene_in context.now table.now frames.now.items) context.now.scope.now
+        (atom_meant atom.now) }
 {
     atom_holds(&scene_now(context, table, frames), context.scope, atom)
 }
@@ -25,7 +26,8 @@ fn atom_now(context: &Context, atom: &Atom, table: &Table, frames: &Frames) -> b
 #[inline(never)]
 fn both_now(context: &Context, one: &Atom, other: &Atom, table: &Table, frames: &Frames) -> bool
     requires stands { Stands context.now table.now frames.now.items }
-    ensures { result ≡ test_value (scene_in context.now table.now frames.now.items) context.now.scope.now (and_of (test (atom_meant one.now) (test (atom_meant other.now) no_test))) }
+    ensures { result ≡ test_value (scene_in context.now table.now frames.now.items) context.now.scope.now
+        (and_of (test (atom_meant one.now) (test (atom_meant other.now) no_test))) }
 {
     let scene = scene_now(context, table, frames);
     atom_holds(&scene, context.scope, one) && atom_holds(&scene, context.scope, other)

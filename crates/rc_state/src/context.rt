@@ -10,8 +10,8 @@ use rc_rules::{About, Frames};
 use rc_table::Table;
 use rc_value::{Bindings, Current, Scene};
 
-/// By what effects are done: what the match is played by, what variables stand for, and who is current. No effect changes any
-/// of them.
+/// By what effects are done: what the match is played by, what variables stand for, and who is current. No effect
+/// changes any of them.
 #[derive(Drop)]
 pub struct Context<'c> {
     pub about: &'c About,

@@ -10,7 +10,8 @@ use rc_rules::{About, Control, owner_count};
 
 /// The control at the start of a match.
 pub fn new_control(about: &About) -> Control
-    ensures { control_seen result ≡ record { site = None; frames = []; turn = 0; made = replicate about.now.sheet.players 0 } }
+    ensures { control_seen result
+        ≡ record { site = None; frames = []; turn = 0; made = replicate about.now.sheet.players 0 } }
 {
     Control {
         site: None,

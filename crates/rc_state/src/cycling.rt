@@ -39,8 +39,10 @@ fn name_in(about: &About, class: Class, member: u8, frames: &mut [Frame])
 // The place of the innermost stage of a class.
 fn innermost(about: &About, class: Class, frames: &[Frame]) -> Option<usize>
     ensures within { IfSome result (λ at. at < length frames.now) }
-    ensures found { IfSome result (λ at. IsInnermost (λ frame. is_of_class about.now.sheet class frame.stage) (frames_seen frames.now) at) }
-    ensures none { IfNone result (list_any (λ frame. is_of_class about.now.sheet class frame.stage) (frames_seen frames.now) ≡ false) }
+    ensures found { IfSome result (λ at. IsInnermost (λ frame. is_of_class about.now.sheet class frame.stage)
+        (frames_seen frames.now) at) }
+    ensures none { IfNone result (list_any (λ frame. is_of_class about.now.sheet class frame.stage)
+        (frames_seen frames.now) ≡ false) }
 {
     let mut at = frames.len();
     while at > 0 {

@@ -17,8 +17,8 @@ use rc_value::{Card, Collection, bare};
 /// At most 32 cards.
 pub type FewCards = ArrayVec<Card, 32>;
 
-/// Writes the cards of a location or of a variable into an empty list, where they are at most 32, and says whether it did. It
-/// doesn't for another expression.
+/// Writes the cards of a location or of a variable into an empty list, where they are at most 32, and says whether it
+/// did. It doesn't for another expression.
 pub fn few_cards_now(
     context: &Context,
     expr: &CollExpr,
@@ -29,7 +29,8 @@ pub fn few_cards_now(
     requires stands { Stands context.now table.now frames.now.items }
     requires well { IsCollUnder context.now.about.now.sheet context.now.scope.now (coll_seen expr.now) }
     requires empty { out.old.items ≡ [] }
-    ensures is { result ≡ true → values_seen out.new.items ≡ coll_value (scene_in context.now table.now frames.now.items) context.now.scope.now (coll_seen expr.now) }
+    ensures is { result ≡ true → values_seen out.new.items
+        ≡ coll_value (scene_in context.now table.now frames.now.items) context.now.scope.now (coll_seen expr.now) }
     ensures there { result ≡ true → All (λ card. IsCardOf context.now.about.now.shape (value_seen card)) out.new.items }
 {
     // what an about and a table keep
@@ -48,7 +49,8 @@ fn write_bare(
 ) -> bool
     requires stands { Stands context.now table.now frames.now.items }
     requires empty { out.old.items ≡ [] }
-    ensures { result ≡ true → values_seen out.new.items ≡ coll_value (scene_in context.now table.now frames.now.items) context.now.scope.now (coll_seen expr.now) }
+    ensures { result ≡ true → values_seen out.new.items
+        ≡ coll_value (scene_in context.now table.now frames.now.items) context.now.scope.now (coll_seen expr.now) }
 {
     let scene = scene_now(context, table, frames);
     match bare(&scene, context.scope, expr) {
@@ -82,7 +84,9 @@ pub fn sole_card_now(
 ) -> Option<Card>
     requires stands { Stands context.now table.now frames.now.items }
     requires well { IsCollUnder context.now.about.now.sheet context.now.scope.now (coll_seen expr.now) }
-    ensures is { IfSome result (λ card. coll_value (scene_in context.now table.now frames.now.items) context.now.scope.now (coll_seen expr.now) ≡ value_seen card ∷ []) }
+    ensures is { IfSome result (λ card. coll_value
+        (scene_in context.now table.now frames.now.items) context.now.scope.now (coll_seen expr.now)
+        ≡ value_seen card ∷ []) }
     ensures there { IfSome result (λ card. IsCardOf context.now.about.now.shape (value_seen card)) }
 {
     // what an about and a table keep
@@ -94,7 +98,8 @@ pub fn sole_card_now(
 #[inline(always)]
 fn sole_bare(context: &Context, expr: &CollExpr, table: &Table, frames: &Frames) -> Option<Card>
     requires stands { Stands context.now table.now frames.now.items }
-    ensures { IfSome result (λ card. coll_value (scene_in context.now table.now frames.now.items) context.now.scope.now (coll_seen expr.now) ≡ value_seen card ∷ []) }
+    ensures { IfSome result (λ card. coll_value (scene_in context.now table.now frames.now.items) context.now.scope.now
+        (coll_seen expr.now) ≡ value_seen card ∷ []) }
 {
     let scene = scene_now(context, table, frames);
     match bare(&scene, context.scope, expr) {

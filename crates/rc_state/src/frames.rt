@@ -14,7 +14,13 @@ use rc_value::{Current, current_inside, current_of};
 pub fn open_frame(frames: &mut Frames, about: &About, number: u16, class: Class)
     requires room { length frames.old.items < 64 }
     ensures { frames_seen frames.new.items ≡ frames_seen frames.old.items
-        ++ record { stage = number; member = pure_current_in about.now.sheet class (frames_seen frames.old.items); back = false; named = None } ∷ [] }
+        ++ record {
+          stage = number;
+          member = pure_current_in about.now.sheet class
+              (frames_seen frames.old.items);
+          back = false;
+          named = None;
+        } ∷ [] }
 {
     let current = current_of(about.sheet(), about.lookup(), frames.as_slice());
     let _inside = open_frame_by(frames, about, current, number, class);
@@ -32,7 +38,13 @@ pub fn open_frame_by(
     requires room { length frames.old.items < 64 }
     requires current { IsCurrent about.now.sheet (frames_seen frames.old.items) current }
     ensures opened { frames_seen frames.new.items ≡ frames_seen frames.old.items
-        ++ record { stage = number; member = pure_current_in about.now.sheet class (frames_seen frames.old.items); back = false; named = None } ∷ [] }
+        ++ record {
+          stage = number;
+          member = pure_current_in about.now.sheet class
+              (frames_seen frames.old.items);
+          back = false;
+          named = None;
+        } ∷ [] }
     ensures current { IsCurrent about.now.sheet (frames_seen frames.new.items) result }
 {
     let frame = Frame {

@@ -1,5 +1,5 @@
-//! What a machine reads of a match, and changes in it, whatever it plays on: what expressions stand for now, the members of domains,
-//! the frames of open stages, scores and the counts of a control.
+//! What a machine reads of a match, and changes in it, whatever it plays on: what expressions stand for now, the
+//! members of domains, the frames of open stages, scores and the counts of a control.
 //!
 //! Nothing here takes memory.
 #![tactic(auto)]

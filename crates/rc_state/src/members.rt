@@ -37,7 +37,8 @@ pub fn bind_of<'m>(member: Member, group: &'m Cards) -> Bind<'m>
     }
 }
 
-/// The member of a domain at a position, or player 0 where there is none. Where it is a group, its cards go into the empty list.
+/// The member of a domain at a position, or player 0 where there is none. Where it is a group, its cards go into the
+/// empty list.
 pub fn member_at(
     context: &Context,
     domain: &Domain,
@@ -50,7 +51,8 @@ pub fn member_at(
     requires well { IsDomainUnder context.now.about.now.sheet context.now.scope.now (domain_seen domain.now) }
     requires empty { room.old.items ≡ [] }
     ensures is { member_seen result (values_seen room.new.items)
-        ≡ slice_index_or (members (scene_in context.now table.now frames.now.items) context.now.scope.now (domain_seen domain.now)) spot (player_bound 0) }
+        ≡ slice_index_or (members (scene_in context.now table.now frames.now.items) context.now.scope.now
+        (domain_seen domain.now)) spot (player_bound 0) }
     ensures there { IsBindOf context.now.about.now.shape (member_seen result (values_seen room.new.items)) }
 {
     // what an about and a table keep
@@ -65,7 +67,8 @@ pub fn member_at(
 
 // The player with this number, or player 0 where there is none.
 fn player_at(context: &Context, spot: u16) -> u8
-    ensures { let bound : PureBind CardValue = player_bound result in bound ≡ slice_index_or (map (λ n. player_bound n) (below context.now.about.now.sheet.players)) spot (player_bound 0) }
+    ensures { let bound : PureBind CardValue = player_bound result in bound
+        ≡ slice_index_or (map (λ n. player_bound n) (below context.now.about.now.sheet.players)) spot (player_bound 0) }
 {
     if spot < u16::from(context.about.sheet().players) {
         spot as u8
@@ -86,7 +89,8 @@ fn card_at(
     requires well { IsCollUnder context.now.about.now.sheet context.now.scope.now (coll_seen cards.now) }
     requires empty { room.old.items ≡ [] }
     ensures { member_seen result (values_seen room.new.items) ≡ slice_index_or
-        (map (λ c. card_bound c) (coll_value (scene_in context.now table.now frames.now.items) context.now.scope.now (coll_seen cards.now))) spot (player_bound 0) }
+        (map (λ c. card_bound c) (coll_value (scene_in context.now table.now frames.now.items) context.now.scope.now
+        (coll_seen cards.now))) spot (player_bound 0) }
 {
     cards_now(context, cards, table, frames, room);
     match (&*room).as_slice().get(spot as usize) {
@@ -108,7 +112,8 @@ fn group_at(
     requires well { IsCollUnder context.now.about.now.sheet context.now.scope.now (coll_seen cards.now) }
     ensures { member_seen result (values_seen group.new.items) ≡ slice_index_or
         (map (λ g. group_bound g) (groups_by (scene_in context.now table.now frames.now.items) attr
-        (coll_value (scene_in context.now table.now frames.now.items) context.now.scope.now (coll_seen cards.now)))) spot (player_bound 0) }
+        (coll_value (scene_in context.now table.now frames.now.items) context.now.scope.now
+        (coll_seen cards.now)))) spot (player_bound 0) }
 {
     let mut room = Cards::new();
     cards_now(context, cards, table, frames, &mut room);
@@ -125,8 +130,9 @@ fn group_at(
     }
 }
 
-/// What a variable stands for that is bound to the member of a domain at a position, or to player 0 where there is none. None where
-/// the members stand nowhere as they are: cards that pass a test or come from several places, and groups.
+/// What a variable stands for that is bound to the member of a domain at a position, or to player 0 where there is
+/// none. None where the members stand nowhere as they are: cards that pass a test or come from several places, and
+/// groups.
 #[inline(always)]
 pub fn bare_bind_at<'m>(
     context: &Context,
@@ -138,7 +144,8 @@ pub fn bare_bind_at<'m>(
     requires stands { Stands context.now table.now frames.now.items }
     requires well { IsDomainUnder context.now.about.now.sheet context.now.scope.now (domain_seen domain.now) }
     ensures is { IfSome result (λ bind. bind_seen bind
-        ≡ slice_index_or (members (scene_in context.now table.now frames.now.items) context.now.scope.now (domain_seen domain.now)) spot (player_bound 0)) }
+        ≡ slice_index_or (members (scene_in context.now table.now frames.now.items) context.now.scope.now
+        (domain_seen domain.now)) spot (player_bound 0)) }
     ensures there { IfSome result (λ bind. IsBindOf context.now.about.now.shape (bind_seen bind)) }
 {
     // what an about and a table keep
@@ -157,7 +164,8 @@ fn bound_at<'m>(
 ) -> Option<Bind<'m>>
     requires stands { Stands context.now table.now frames.now.items }
     ensures { IfSome result (λ bind. bind_seen bind
-        ≡ slice_index_or (members (scene_in context.now table.now frames.now.items) context.now.scope.now (domain_seen domain.now)) spot (player_bound 0)) }
+        ≡ slice_index_or (members (scene_in context.now table.now frames.now.items) context.now.scope.now
+        (domain_seen domain.now)) spot (player_bound 0)) }
 {
     match domain {
         Domain::Players => Some(Bind::Player(player_at(context, spot))),
@@ -176,7 +184,8 @@ fn bare_card_at<'m>(
 ) -> Option<Bind<'m>>
     requires stands { Stands context.now table.now frames.now.items }
     ensures { IfSome result (λ bind. bind_seen bind ≡ slice_index_or
-        (map (λ c. card_bound c) (coll_value (scene_in context.now table.now frames.now.items) context.now.scope.now (coll_seen cards.now))) spot (player_bound 0)) }
+        (map (λ c. card_bound c) (coll_value (scene_in context.now table.now frames.now.items) context.now.scope.now
+        (coll_seen cards.now))) spot (player_bound 0)) }
 {
     let scene = scene_now(context, table, frames);
     match bare(&scene, context.scope, cards) {

@@ -10,13 +10,15 @@ use rc_ast::Class;
 use rc_play_model::edits_keep_tables_sound;
 use rc_table::{Shape, Table, sees};
 
-/// A card's marks when it is shown to a player, or to the members of a team: those that it has, and of these seats those that don't see
-/// the location where it stands.
+/// A card's marks when it is shown to a player, or to the members of a team: those that it has, and of these seats
+/// those that don't see the location where it stands.
 pub fn joined_marks(table: &Table, id: u16, class: Class, owner: u8) -> u8
     requires card { id < length table.now.shape.faces }
-    ensures is { seats_in result ≡ joined table.now.shape (is_named_by table.now.shape class owner) (loc_of table.now.shape table.now.table id) (marks_of table.now.table.marks id) }
+    ensures is { seats_in result ≡ joined table.now.shape (is_named_by table.now.shape class owner)
+        (loc_of table.now.shape table.now.table id) (marks_of table.now.table.marks id) }
     ensures players { All (λ seat. seat < table.now.shape.players) (seats_in result) }
-    ensures unseen { All (λ seat. sees_faces table.now.shape seat (loc_of table.now.shape table.now.table id) ≡ false) (seats_in result) }
+    ensures unseen { All (λ seat. sees_faces table.now.shape seat (loc_of table.now.shape table.now.table id) ≡ false)
+        (seats_in result) }
 {
     edits_keep_tables_sound();
     // what is known of a sound table
@@ -28,7 +30,8 @@ pub fn joined_marks(table: &Table, id: u16, class: Class, owner: u8) -> u8
 // The same, of a card in this location.
 fn joined_bits(table: &Table, id: u16, loc: u16, class: Class, owner: u8) -> u8
     requires card { id < length table.now.shape.faces }
-    ensures { seats_in result ≡ joined table.now.shape (is_named_by table.now.shape class owner) loc (marks_of table.now.table.marks id) }
+    ensures { seats_in result ≡ joined table.now.shape (is_named_by table.now.shape class owner) loc
+        (marks_of table.now.table.marks id) }
 {
     // what a shape keeps
     let _players = table.shape().players();

@@ -26,7 +26,8 @@ use rc_value::{
 pub fn card_now(context: &Context, expr: &CardExpr, table: &Table, frames: &Frames) -> Option<Card>
     requires stands { Stands context.now table.now frames.now.items }
     requires well { IsCardUnder context.now.about.now.sheet context.now.scope.now (card_seen expr.now) }
-    ensures is { option_map value_seen result ≡ card_value (scene_in context.now table.now frames.now.items) context.now.scope.now (card_seen expr.now) }
+    ensures is { option_map value_seen result
+        ≡ card_value (scene_in context.now table.now frames.now.items) context.now.scope.now (card_seen expr.now) }
     ensures there { IfSome result (λ card. IsCardOf context.now.about.now.shape (value_seen card)) }
 {
     expressions_bind_few();
@@ -41,7 +42,8 @@ pub fn card_now(context: &Context, expr: &CardExpr, table: &Table, frames: &Fram
 fn found_card(context: &Context, expr: &CardExpr, table: &Table, frames: &Frames) -> Option<Card>
     requires stands { Stands context.now table.now frames.now.items }
     requires fits { length context.now.scope.now + card_depth (card_seen expr.now) ≤ 5 }
-    ensures { option_map value_seen result ≡ card_value (scene_in context.now table.now frames.now.items) context.now.scope.now (card_seen expr.now) }
+    ensures { option_map value_seen result
+        ≡ card_value (scene_in context.now table.now frames.now.items) context.now.scope.now (card_seen expr.now) }
 {
     match expr {
         CardExpr::Var(var) => context.scope.card(*var),
@@ -60,7 +62,8 @@ pub fn cards_now(
     requires stands { Stands context.now table.now frames.now.items }
     requires well { IsCollUnder context.now.about.now.sheet context.now.scope.now (coll_seen expr.now) }
     requires empty { out.old.items ≡ [] }
-    ensures is { values_seen out.new.items ≡ coll_value (scene_in context.now table.now frames.now.items) context.now.scope.now (coll_seen expr.now) }
+    ensures is { values_seen out.new.items
+        ≡ coll_value (scene_in context.now table.now frames.now.items) context.now.scope.now (coll_seen expr.now) }
     ensures there { All (λ card. IsCardOf context.now.about.now.shape (value_seen card)) out.new.items }
 {
     expressions_bind_few();
@@ -75,7 +78,8 @@ pub fn cards_now(
 pub fn int_now(context: &Context, expr: &IntExpr, table: &Table, frames: &Frames) -> i64
     requires stands { Stands context.now table.now frames.now.items }
     requires well { IsIntUnder context.now.about.now.sheet context.now.scope.now (int_seen expr.now) }
-    ensures is { result ≡ int_value (scene_in context.now table.now frames.now.items) context.now.scope.now (int_seen expr.now) }
+    ensures is { result ≡ int_value (scene_in context.now table.now frames.now.items) context.now.scope.now
+        (int_seen expr.now) }
     ensures clamped { IsWithinClamp result }
 {
     expressions_bind_few();
@@ -90,7 +94,8 @@ pub fn int_now(context: &Context, expr: &IntExpr, table: &Table, frames: &Frames
 fn found_int(context: &Context, expr: &IntExpr, table: &Table, frames: &Frames) -> i64
     requires stands { Stands context.now table.now frames.now.items }
     requires fits { length context.now.scope.now + int_depth (int_seen expr.now) ≤ 5 }
-    ensures { result ≡ int_value (scene_in context.now table.now frames.now.items) context.now.scope.now (int_seen expr.now) }
+    ensures { result ≡ int_value (scene_in context.now table.now frames.now.items) context.now.scope.now
+        (int_seen expr.now) }
 {
     match expr {
         IntExpr::Lit(value) => *value,
@@ -103,7 +108,8 @@ fn found_int(context: &Context, expr: &IntExpr, table: &Table, frames: &Frames) 
 pub fn test_now(context: &Context, expr: &Test, table: &Table, frames: &Frames) -> bool
     requires stands { Stands context.now table.now frames.now.items }
     requires well { IsTestUnder context.now.about.now.sheet context.now.scope.now (test_seen expr.now) }
-    ensures { result ≡ test_value (scene_in context.now table.now frames.now.items) context.now.scope.now (test_seen expr.now) }
+    ensures { result ≡ test_value (scene_in context.now table.now frames.now.items) context.now.scope.now
+        (test_seen expr.now) }
 {
     expressions_bind_few();
     test_of(&scene_now(context, table, frames), context.scope, expr)
@@ -113,7 +119,8 @@ pub fn test_now(context: &Context, expr: &Test, table: &Table, frames: &Frames) 
 #[inline(always)]
 pub fn who_now(context: &Context, who: Who, table: &Table, frames: &Frames) -> u8
     requires stands { Stands context.now table.now frames.now.items }
-    ensures { result ≡ who_value (scene_in context.now table.now frames.now.items).known context.now.scope.now (who_seen who) }
+    ensures { result ≡ who_value (scene_in context.now table.now frames.now.items).known context.now.scope.now
+        (who_seen who) }
 {
     who_of(&scene_now(context, table, frames), context.scope, &who)
 }
@@ -122,8 +129,10 @@ pub fn who_now(context: &Context, who: Who, table: &Table, frames: &Frames) -> u
 #[inline(always)]
 pub fn loc_now(context: &Context, loc: &Loc, table: &Table, frames: &Frames) -> Option<u16>
     requires stands { Stands context.now table.now frames.now.items }
-    ensures is { result ≡ loc_place (scene_in context.now table.now frames.now.items).known context.now.scope.now (loc_seen loc.now) }
-    ensures holds { IfSome result (λ at. HoldsAs context.now.about.now.shape (holds_references context.now.about.now.sheet loc.now.name) at) }
+    ensures is { result ≡ loc_place (scene_in context.now table.now frames.now.items).known context.now.scope.now
+        (loc_seen loc.now) }
+    ensures holds { IfSome result (λ at. HoldsAs context.now.about.now.shape
+        (holds_references context.now.about.now.sheet loc.now.name) at) }
 {
     // what an about keeps
     let _fits = context.about.sheet();
@@ -134,7 +143,8 @@ pub fn loc_now(context: &Context, loc: &Loc, table: &Table, frames: &Frames) -> 
 #[inline(always)]
 pub fn num_now(context: &Context, num: &Num, table: &Table, frames: &Frames) -> Option<u16>
     requires stands { Stands context.now table.now frames.now.items }
-    ensures { result ≡ num_place (scene_in context.now table.now frames.now.items).known context.now.scope.now (num_seen num.now) }
+    ensures { result ≡ num_place (scene_in context.now table.now frames.now.items).known context.now.scope.now
+        (num_seen num.now) }
 {
     num_at(&scene_now(context, table, frames), context.scope, num)
 }

@@ -23,7 +23,8 @@ use rc_value::{
 pub fn has_ended(about: &About, table: &Table, control: &Control, end: &Test) -> bool
     requires laid { table.now.shape ≡ about.now.shape }
     requires well { (around : Around) × (around.binders ≡ 0) × IsTest about.now.sheet around (test_seen end.now) }
-    ensures { result ≡ test_value (scene_at about.now table.now.table (frames_seen control.now.frames.items)) [] (test_seen end.now) }
+    ensures { result ≡ test_value (scene_at about.now table.now.table (frames_seen control.now.frames.items)) []
+        (test_seen end.now) }
 {
     let current = current_of(about.sheet(), about.lookup(), control.frames.as_slice());
     has_ended_asked(about, current, table, control, end)
@@ -41,7 +42,8 @@ pub fn has_ended_by(
     requires laid { table.now.shape ≡ about.now.shape }
     requires current { IsCurrent about.now.sheet (frames_seen control.now.frames.items) current }
     requires well { (around : Around) × (around.binders ≡ 0) × IsTest about.now.sheet around end.now }
-    ensures { result ≡ test_value (scene_at about.now table.now.table (frames_seen control.now.frames.items)) [] end.now }
+    ensures { result ≡ test_value (scene_at about.now table.now.table
+        (frames_seen control.now.frames.items)) [] end.now }
 {
     let scene = Scene::with_current(
         about.sheet(),
@@ -68,7 +70,8 @@ fn has_ended_asked(
     requires laid { table.now.shape ≡ about.now.shape }
     requires current { IsCurrent about.now.sheet (frames_seen control.now.frames.items) current }
     requires well { (around : Around) × (around.binders ≡ 0) × IsTest about.now.sheet around (test_seen end.now) }
-    ensures { result ≡ test_value (scene_at about.now table.now.table (frames_seen control.now.frames.items)) [] (test_seen end.now) }
+    ensures { result ≡ test_value (scene_at about.now table.now.table (frames_seen control.now.frames.items)) []
+        (test_seen end.now) }
 {
     expressions_bind_few();
     let scene = Scene::with_current(

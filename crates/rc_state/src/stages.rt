@@ -8,7 +8,8 @@ use rc_ast::Class;
 use rc_rules::{About, Frame, current_in};
 use rc_value::Current;
 
-/// The current member of the innermost open stage of a class, or 0 where none is open, where it is known who is current.
+/// The current member of the innermost open stage of a class, or 0 where none is open, where it is known who is
+/// current.
 #[inline(always)]
 pub fn member_by(about: &About, current: Current, class: Class, frames: &[Frame]) -> u8
     requires { IsCurrent about.now.sheet (frames_seen frames.now) current }

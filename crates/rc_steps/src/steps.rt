@@ -20,7 +20,8 @@ impl<L: Ledger> Model for Steps<L> {
 }
 
 impl<L: Ledger> Steps<L> {
-    /// A counter of no steps. The blank has the name and the parts of a ledger that no type stands for yet, and one part at least.
+    /// A counter of no steps. The blank has the name and the parts of a ledger that no type stands for yet, and one
+    /// part at least.
     pub fn new(blank: Blank) -> Self
         requires name { blank.name ≡ L.name }
         requires parts { blank.parts ≡ L.parts }

@@ -138,7 +138,8 @@ impl Table {
     pub fn set_marks(&mut self, id: u16, seats: u8)
         requires card { id < length self.old.shape.faces }
         requires players { All (λ seat. seat < self.old.shape.players) (seats_in seats) }
-        requires unseen { All (λ seat. sees self.old.shape seat (loc_of self.old.shape self.old.table id) ≡ false) (seats_in seats) }
+        requires unseen { All (λ seat. sees self.old.shape seat (loc_of self.old.shape self.old.table id) ≡ false)
+            (seats_in seats) }
         ensures { self.new ≡ relaid self.old (set_marks id (seats_in seats) self.old.table) }
     {
         edits_keep_tables_sound();

@@ -29,7 +29,8 @@ fn first_like(faces: &[Face], face: &Face) -> usize
     faces.len()
 }
 
-/// The number of each of these faces: the place of the first one that equals it. It compares each face with those before it.
+/// The number of each of these faces: the place of the first one that equals it. It compares each face with those
+/// before it.
 pub(crate) fn face_numbers_of(alloc: Global, faces: &[Face]) -> Result<Vec<u16>, Memory>
     requires { length faces.now ≤ most_cards }
     ensures { IfOk result (λ numbers. numbers.items ≡ face_numbers_of faces.now) }

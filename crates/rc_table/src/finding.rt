@@ -15,7 +15,8 @@ use rc_names::limits::{MOST_IN_MEM, MOST_REFERENCES};
 fn topmost(shape: &Shape, list: &[u16], id: u16) -> Option<usize>
     ensures { MatchOption result
         (reverse (without_face shape.now id (reverse list.now)) ≡ list.now)
-        (λ place. (place < length list.now) × (reverse (without_face shape.now id (reverse list.now)) ≡ remove list.now place)) }
+        (λ place. (place < length list.now)
+        × (reverse (without_face shape.now id (reverse list.now)) ≡ remove list.now place)) }
 {
     for place in (0..list.len()).rev() {
         if have_same_face(shape, list[place], id) {
@@ -55,7 +56,8 @@ impl Table {
 
     // How many references a location holds.
     fn references_in(&self, loc: u16) -> usize
-        ensures { result ≡ (if holds_references (slice_get self.now.shape.places loc) then length (list_at self.now.table loc) else 0) }
+        ensures { result ≡ (if holds_references (slice_get self.now.shape.places loc) then length
+            (list_at self.now.table loc) else 0) }
     {
         if self.shape().holds_references(loc) {
             self.list(loc).len()
@@ -82,7 +84,8 @@ impl Table {
         self.list(loc).len() < MOST_IN_MEM && self.has_room_among_all(loc)
     }
 
-    // Whether all locations together have room, where this one has. They need not be counted where two at most hold references.
+    // Whether all locations together have room, where this one has. They need not be counted where two at most hold
+    // references.
     fn has_room_among_all(&self, loc: u16) -> bool
         requires room { length (list_at self.now.table loc) < most_in_mem }
         ensures { result ≡ nat_lt (references self.now.shape self.now.table) most_references }
@@ -97,7 +100,8 @@ impl Table {
     pub fn topmost_like(&self, id: u16, loc: u16) -> Option<u16>
         ensures { MatchOption result
             (forget_in self.now.shape id loc self.now.table ≡ self.now.table)
-            (λ place. (place < length (list_at self.now.table loc)) × (forget_in self.now.shape id loc self.now.table ≡ taken_at loc place self.now.table)) }
+            (λ place. (place < length (list_at self.now.table loc))
+            × (forget_in self.now.shape id loc self.now.table ≡ taken_at loc place self.now.table)) }
     {
         match topmost(self.shape(), self.list(loc), id) {
             Some(place) => Some(place as u16),

@@ -22,8 +22,20 @@ impl Table {
 
     /// Becomes the table of these lists, numbers and marks, in the same shape. That table must be sound.
     pub fn lay(&mut self, lists: &[Vec<u16>], numbers: &[i64], marks: &[u8])
-        requires { IsSound self.old.shape (record { lists = map (λ list. list.items) lists.now; numbers = numbers.now; marks = map seats_in marks.now }) }
-        ensures { self.new ≡ relaid self.old (record { lists = map (λ list. list.items) lists.now; numbers = numbers.now; marks = map seats_in marks.now }) }
+        requires { IsSound self.old.shape
+            (record {
+              lists = map
+                  (λ list. list.items) lists.now;
+              numbers = numbers.now;
+              marks = map seats_in marks.now;
+            }) }
+        ensures { self.new ≡ relaid self.old
+            (record {
+              lists = map
+                  (λ list. list.items) lists.now;
+              numbers = numbers.now;
+              marks = map seats_in marks.now;
+            }) }
     {
         self.lists.lay(lists);
         note_all(&mut self.whereabouts, &self.shape, &self.lists);
@@ -31,8 +43,8 @@ impl Table {
         self.marks.lay(marks);
     }
 
-    /// Writes ids over what these locations hold, one location after another, each with as many of them as it has. The ids are
-    /// enough for all of the locations, and the table must then be sound.
+    /// Writes ids over what these locations hold, one location after another, each with as many of them as it has. The
+    /// ids are enough for all of the locations, and the table must then be sound.
     pub fn refill(&mut self, locs: &[u16], ids: &[u16])
         requires enough { CanRefill locs.now ids.now self.old.table.lists }
         requires sound { IsSound self.old.shape (refilled locs.now ids.now self.old.table) }

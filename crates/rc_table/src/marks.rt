@@ -7,8 +7,8 @@ use rc_deck::Memory;
 use std::alloc::Global;
 use std::marker::Model;
 
-/// The marks of each card, as a byte whose bit s is that of seat s. In a match in which nobody peeks all of them are 0, and then no edit
-/// reads or writes any.
+/// The marks of each card, as a byte whose bit s is that of seat s. In a match in which nobody peeks all of them are 0,
+/// and then no edit reads or writes any.
 #[derive(Drop)]
 pub(crate) struct Marks {
     bytes: Vec<u8>,

@@ -24,8 +24,9 @@ pub(crate) struct Row {
 /// Copying a list by itself takes about as long as copying this many ids together with others.
 const ROOM_COPIED_AT_ONCE: usize = 128;
 
-/// Lists of ids, each in a row of its own, so that an edit of one moves no other. All rows lie in one memory, one behind the
-/// other, so that all of them can be copied at once. Edits keep within the room that each row was given when the rows were made.
+/// Lists of ids, each in a row of its own, so that an edit of one moves no other. All rows lie in one memory, one
+/// behind the other, so that all of them can be copied at once. Edits keep within the room that each row was given when
+/// the rows were made.
 #[derive(Drop)]
 pub(crate) struct Rows {
     ids: Vec<u16>,
@@ -61,7 +62,8 @@ fn insert_at(row: &mut [u16], place: usize, id: u16)
 impl Rows {
     /// An empty list for each location of a shape, with room for all that it may hold.
     pub(crate) fn new(alloc: Global, shape: &Shape) -> Result<Rows, Memory>
-        ensures { IfOk result (λ rows. rows ≡ record { all = replicate (length shape.now.places) []; room = rooms shape.now }) }
+        ensures { IfOk result (λ rows. rows
+            ≡ record { all = replicate (length shape.now.places) []; room = rooms shape.now }) }
     {
         let mut rows = Vec::with_capacity(alloc, shape.locations() as usize)?;
         let mut end = 0;
@@ -191,8 +193,8 @@ impl Rows {
         }
     }
 
-    /// Writes the lists of other rows over all of these, each with as much room. Where there is much room for a list, most of it is
-    /// likely free, and what is free isn't copied.
+    /// Writes the lists of other rows over all of these, each with as much room. Where there is much room for a list,
+    /// most of it is likely free, and what is free isn't copied.
     pub(crate) fn copy_from(&mut self, other: &Rows)
         requires room { other.now.room ≡ self.old.room }
         requires few { length other.now.all ≤ most_locations }
@@ -234,7 +236,8 @@ impl Rows {
         requires { other.now.room ≡ self.old.room }
         ensures room { self.new.room ≡ self.old.room }
         ensures each { length self.new.all ≡ length other.now.all }
-        ensures lengths { (at : ℕ) → length (slice_index_or self.new.all at []) ≡ length (slice_index_or other.now.all at []) }
+        ensures lengths { (at : ℕ) → length (slice_index_or self.new.all at [])
+            ≡ length (slice_index_or other.now.all at []) }
     {
         self.rows.copy_from_slice(&other.rows);
     }
@@ -244,7 +247,11 @@ impl Rows {
     fn copy_list(&mut self, other: &Rows, at: u16)
         requires list { at < length self.old.all }
         requires length { length (slice_index_or self.old.all at []) ≡ length (slice_index_or other.now.all at []) }
-        ensures { self.new ≡ record { all = slice_set self.old.all at (slice_index_or other.now.all at []); room = self.old.room } }
+        ensures { self.new ≡ record {
+          all = slice_set self.old.all at
+              (slice_index_or other.now.all at []);
+          room = self.old.room;
+        } }
     {
         let list = other.list(at);
         if list.is_empty() {

@@ -13,11 +13,11 @@ use rc_names::limits::MOST_IN_MEM;
 use std::alloc::Global;
 use std::marker::Model;
 
-/// How many players there are, each player's team, the locations in their order, how many numbers there are, and each card's
-/// face and first location.
+/// How many players there are, each player's team, the locations in their order, how many numbers there are, and each
+/// card's face and first location.
 ///
-/// It keeps the limits: 1 to 8 players, at most 512 cards, 256 locations and 256 numbers. Owners are players and teams that
-/// are there, and each card begins in a location that is no `mem`.
+/// It keeps the limits: 1 to 8 players, at most 512 cards, 256 locations and 256 numbers. Owners are players and teams
+/// that are there, and each card begins in a location that is no `mem`.
 #[derive(Debug, Drop)]
 pub struct Shape {
     players: u8,
@@ -47,13 +47,15 @@ impl Model for Shape {
 
     ghost view = { λ s. shape_of_parts s.players s.team_of.items s.places.items s.numbers s.faces.items s.home.items };
 
-    ghost invariant = { λ s. IsShape (shape_of_parts s.players s.team_of.items s.places.items s.numbers s.faces.items s.home.items)
-        × (s.face_numbers.items ≡ face_numbers_of s.faces.items) × (s.mems ≡ mems_among (map place_seen s.places.items)) };
+    ghost invariant = { λ s. IsShape
+        (shape_of_parts s.players s.team_of.items s.places.items s.numbers s.faces.items s.home.items)
+        × (s.face_numbers.items ≡ face_numbers_of s.faces.items)
+        × (s.mems ≡ mems_among (map place_seen s.places.items)) };
 }
 
 impl Shape {
-    /// A shape of these parts. It finds the number of each card's face, by which later calls tell faces, and how many locations hold
-    /// references.
+    /// A shape of these parts. It finds the number of each card's face, by which later calls tell faces, and how many
+    /// locations hold references.
     pub fn new(
         alloc: Global,
         players: u8,
@@ -64,7 +66,8 @@ impl Shape {
         home: Vec<u16>,
     ) -> Result<Shape, Memory>
         requires { IsShape (shape_of_parts players team_of.items places.items numbers faces.items home.items) }
-        ensures { IfOk result (λ shape. shape ≡ shape_of_parts players team_of.items places.items numbers faces.items home.items) }
+        ensures { IfOk result (λ shape. shape
+            ≡ shape_of_parts players team_of.items places.items numbers faces.items home.items) }
     {
         let face_numbers = face_numbers_of(alloc, &faces)?;
         let mems = mems_among(&places);

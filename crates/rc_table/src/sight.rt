@@ -18,8 +18,8 @@ fn is_owner(shape: &Shape, seat: u8, owner: Owner) -> bool
     }
 }
 
-/// Whether a seat sees the faces in a location: in a `vloc` and a `mem` everybody does, in a `hloc` nobody, and in an `iloc`
-/// its owner, or each member of the team that owns it.
+/// Whether a seat sees the faces in a location: in a `vloc` and a `mem` everybody does, in a `hloc` nobody, and in an
+/// `iloc` its owner, or each member of the team that owns it.
 pub fn sees(shape: &Shape, seat: u8, loc: u16) -> bool
     ensures { result ≡ sees_faces shape.now seat loc }
 {

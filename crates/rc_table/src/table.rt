@@ -17,8 +17,8 @@ use std::alloc::Global;
 use std::marker::Model;
 use std::sync::Arc;
 
-/// Where the cards of a match are: the list of each location from bottom to top, the numbers, and for which seats each card is marked. Each table is sound, and
-/// knows the shape that it is laid for.
+/// Where the cards of a match are: the list of each location from bottom to top, the numbers, and for which seats each
+/// card is marked. Each table is sound, and knows the shape that it is laid for.
 #[derive(Drop)]
 pub struct Table {
     pub(crate) shape: Arc<Shape>,
@@ -41,8 +41,8 @@ impl Model for Table {
 }
 
 impl Table {
-    /// The table of the start: each card in its first location, no reference, all numbers 0, and no mark. It takes all memory that
-    /// later edits need.
+    /// The table of the start: each card in its first location, no reference, all numbers 0, and no mark. It takes all
+    /// memory that later edits need.
     pub fn new(alloc: Global, shape: &Arc<Shape>) -> Result<Table, Memory>
         ensures { IfOk result (λ table. table ≡ record { shape = shape.now.value; table = opening shape.now.value }) }
     {
@@ -107,7 +107,8 @@ impl Table {
 // The lists of the start: each card in its first location.
 fn homes(alloc: Global, shape: &Shape) -> Result<Rows, Memory>
     requires { HasHomes shape.now }
-    ensures { IfOk result (λ lists. lists ≡ record { all = map (at_home shape.now) (below (length shape.now.places)); room = rooms shape.now }) }
+    ensures { IfOk result (λ lists. lists
+        ≡ record { all = map (at_home shape.now) (below (length shape.now.places)); room = rooms shape.now }) }
 {
     let mut lists = Rows::new(alloc, shape)?;
     for id in 0..shape.cards() {

@@ -52,7 +52,8 @@ pub(crate) fn note_move(
     requires few { length (slice_index_or lists.now.all from []) ≤ most_in_list }
     requires other_ids { All (λ id. id < length stand.old) (slice_index_or lists.now.all to []) }
     requires other_few { length (slice_index_or lists.now.all to []) ≤ most_in_list }
-    ensures { stand.new ≡ noted_in shape.now lists.now.all to place (noted_in shape.now lists.now.all from at stand.old) }
+    ensures { stand.new ≡ noted_in shape.now lists.now.all to place
+        (noted_in shape.now lists.now.all from at stand.old) }
 {
     note_cards(stand, shape, lists, from, at);
     note_cards(stand, shape, lists, to, place);
@@ -70,8 +71,8 @@ fn note_left(stand: &mut [(u16, u16)], shape: &Shape, lists: &Rows, loc: u16, fr
     }
 }
 
-/// The same for two locations, of which the other one holds cards, this id as the last one. Most often nothing is left to note in
-/// the first one.
+/// The same for two locations, of which the other one holds cards, this id as the last one. Most often nothing is left
+/// to note in the first one.
 #[inline(always)]
 pub(crate) fn note_top(
     stand: &mut [(u16, u16)],
@@ -89,7 +90,8 @@ pub(crate) fn note_top(
     requires cards { HoldsCards shape.now to }
     requires place { place < most_in_list }
     requires last { drop place (slice_index_or lists.now.all to []) ≡ id ∷ [] }
-    ensures { stand.new ≡ noted_in shape.now lists.now.all to place (noted_in shape.now lists.now.all from at stand.old) }
+    ensures { stand.new ≡ noted_in shape.now lists.now.all to place
+        (noted_in shape.now lists.now.all from at stand.old) }
 {
     note_left(stand, shape, lists, from, at);
     stand[id as usize] = (to, place as u16);

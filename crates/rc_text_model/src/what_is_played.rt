@@ -12,8 +12,8 @@ pub fn what_is_played_is_judged_legal()
     ensures { PlayedIsJudgedLegal }
 {}
 
-/// A source that is read to its end may have its house text behind it, in a new line: it is read as the same forms, and the rest is
-/// that house text.
+/// A source that is read to its end may have its house text behind it, in a new line: it is read as the same forms, and
+/// the rest is that house text.
 pub fn what_is_played_may_stand_behind()
     ensures { PlayedStandsBehind }
 {}

@@ -1,4 +1,5 @@
-//! The built-in trick game: its text, the law that it is accepted, the plan by which `bench` plays it, and what `bench` writes.
+//! The built-in trick game: its text, the law that it is accepted, the plan by which `bench` plays it, and what `bench`
+//! writes.
 #![tactic(auto)]
 
 mod plan;
@@ -54,8 +55,8 @@ pub fn trick_text() -> &'static [u8]
       (scoring max ('SELF sto LAST)))\n"
 }
 
-/// The text of the trick game spells one form and nothing else, and that form is accepted as one sheet, for 4 players. The
-/// function does nothing: its contract is the law.
+/// The text of the trick game spells one form and nothing else, and that form is accepted as one sheet, for 4 players.
+/// The function does nothing: its contract is the law.
 pub fn the_trick_game_is_accepted()
     ensures some { (sheet : Sheet) × IsTrickGame sheet }
     ensures one { (sheet other : Sheet) → IsTrickGame sheet → IsTrickGame other → other ≡ sheet }

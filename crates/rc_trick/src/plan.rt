@@ -51,7 +51,8 @@ fn strategies(alloc: Global) -> Result<Vec<Strategy>, AllocError>
 
 /// So many matches, from this deal and the seats' seed 1,000 on.
 fn deals(alloc: Global, number: u16) -> Result<Vec<Deal>, AllocError>
-    ensures { IfOk result (λ all. map deal_seen all.items ≡ counted_from (record { deal = number; seats = 1000 }) number) }
+    ensures { IfOk result (λ all. map deal_seen all.items
+        ≡ counted_from (record { deal = number; seats = 1000 }) number) }
 {
     let mut all = Vec::new(alloc);
     for m in 0..number {

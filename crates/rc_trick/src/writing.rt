@@ -9,8 +9,8 @@ use rc_text::write_standings;
 use std::alloc::{AllocError, Global};
 use std::fmt::Write;
 
-/// The summary of `bench number`: how many matches and decisions there were, how many matches the turn limit ended, and the
-/// standings.
+/// The summary of `bench number`: how many matches and decisions there were, how many matches the turn limit ended, and
+/// the standings.
 ///
 /// # Errors
 ///
@@ -21,7 +21,8 @@ pub fn summary(
     matches: &[MatchRecord],
     standings: &[Standing],
 ) -> Result<Vec<u8>, Memory>
-    ensures { IfOk result (λ bytes. bytes.items ≡ bench_text number (map record_seen matches.now) (map standing_seen standings.now)) }
+    ensures { IfOk result (λ bytes. bytes.items
+        ≡ bench_text number (map record_seen matches.now) (map standing_seen standings.now)) }
 {
     let mut out = String::new(alloc);
     match write_summary(&mut out, number, matches, standings) {
@@ -36,7 +37,8 @@ fn write_summary(
     matches: &[MatchRecord],
     standings: &[Standing],
 ) -> Result<(), AllocError>
-    ensures { OnOk result (string_bytes out.new ≡ string_bytes out.old ++ bench_text number (map record_seen matches.now) (map standing_seen standings.now)) }
+    ensures { OnOk result (string_bytes out.new
+        ≡ string_bytes out.old ++ bench_text number (map record_seen matches.now) (map standing_seen standings.now)) }
 {
     let decided = decisions_of(matches);
     let limited = limits_of(matches);

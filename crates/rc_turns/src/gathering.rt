@@ -31,7 +31,8 @@ pub(crate) fn gather<C: Chooser + Drop>(
     requires some { 0 < length turns.items }
     requires own { AllByRecursion (IsOwn claims.now.table) turns.items }
     ensures own { IfOk result (λ g. g.pass.table ≡ claims.now.table) }
-    ensures gathered { IfOk result (λ g. (noted : Bool) (about : About) (plan : Plan) (workers : List (Worker C)) → AreTurns C.name C.counts noted about plan workers turns.items
+    ensures gathered { IfOk result (λ g. (noted : Bool) (about : About) (plan : Plan) (workers : List (Worker C))
+        → AreTurns C.name C.counts noted about plan workers turns.items
         → IsGathered C.name C.counts noted about plan workers g.pass g.records.items g.choosers.items) }
 {
     let mut rest = turns;
@@ -56,7 +57,8 @@ pub(crate) fn gather<C: Chooser + Drop>(
 
 // What one worker has.
 fn begin<C: Chooser + Drop>(alloc: Global, turn: Turn<C>) -> Result<Gathered<C>, Memory>
-    ensures { IfOk result (λ g. (g.pass ≡ turn.pass) × (g.records.items ≡ turn.records.items) × (g.choosers.items ≡ turn.chooser ∷ [])) }
+    ensures { IfOk result (λ g. (g.pass ≡ turn.pass) × (g.records.items ≡ turn.records.items)
+        × (g.choosers.items ≡ turn.chooser ∷ [])) }
 {
     let Turn {
         pass,

@@ -137,7 +137,8 @@ fn work<C: Chooser, G: Gate, L: Ledger>(
     requires seats { length plan.now.value.strategies.items ≡ about.now.value.sheet.players }
     requires served { C.serves chooser.old about.now.value }
     requires code { StandsFor about.now.value.sheet (code_seen code.now.value) }
-    ensures { IfOk result (λ records. IsWork noted about.now.value (plan_seen plan.now.value) pass.old pass.new (C.name chooser.old) (C.name chooser.new)
+    ensures { IfOk result (λ records. IsWork noted about.now.value (plan_seen plan.now.value) pass.old pass.new
+        (C.name chooser.old) (C.name chooser.new)
         (C.counts chooser.old) (C.counts chooser.new) records.items) }
 {
     let mut records = Vec::new(alloc);
@@ -172,7 +173,8 @@ fn play<C: Chooser, L: Ledger>(
     requires seats { length plan.now.value.strategies.items ≡ about.now.value.sheet.players }
     ensures number { IfOk result (λ p. p.record.number ≡ number) }
     ensures is { IfOk result (IsRecordIn noted about.now.value (plan_seen plan.now.value)) }
-    ensures rise { OnOk result (Rise (length (asks_of about.now.value (plan_seen plan.now.value) number)) (C.counts chooser.old) (C.counts chooser.new)) }
+    ensures rise { OnOk result (Rise (length (asks_of about.now.value (plan_seen plan.now.value) number))
+        (C.counts chooser.old) (C.counts chooser.new)) }
     ensures same { (other : PureAbout) → C.serves chooser.old other → C.serves chooser.new other }
     ensures named { C.name chooser.new ≡ C.name chooser.old }
 {

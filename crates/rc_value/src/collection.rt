@@ -6,7 +6,8 @@ use crate::Card;
 use rc_names::limits::MOST_IN_COLLECTION;
 use std::marker::Model;
 
-/// Where the cards of a collection stand: in a location, whose number says that it holds references, or in a list of its own.
+/// Where the cards of a collection stand: in a location, whose number says that it holds references, or in a list of
+/// its own.
 #[derive(Clone, Copy)]
 pub enum Listing<'s> {
     There { ids: &'s [u16], mem: Option<u16> },

@@ -1,5 +1,5 @@
-//! Tests of all players that compare a number of each with one that is the same for all: that one is found once, and of each player no
-//! more than his number is looked up.
+//! Tests of all players that compare a number of each with one that is the same for all: that one is found once, and of
+//! each player no more than his number is looked up.
 ghost use Rattle.std.specs.Prelude.{◌≡◌, not, IfSome, true, false};
 ghost use Rattle.std.specs.List.{list_all, list_any};
 ghost use Rattle.rc_model.specs.Numbers.{below};
@@ -82,7 +82,8 @@ fn against(
     how: Comparison,
     other: &IntExpr,
 ) -> Option<Suited>
-    ensures { IfSome result (λ s. (s.name ≡ name) × (s.how ≡ how) × IsSameForAll (scene_seen scene.now) scope.now (int_seen other.now) s.against) }
+    ensures { IfSome result (λ s. (s.name ≡ name) × (s.how ≡ how)
+        × IsSameForAll (scene_seen scene.now) scope.now (int_seen other.now) s.against) }
 {
     match same_for_all(scene, scope, other) {
         Some(against) => Some(Suited { name, how, against }),
@@ -146,7 +147,8 @@ fn does_own(who: Who, place: usize) -> bool
 /// Whether each player's number is so.
 #[inline(never)]
 pub(crate) fn all_suit(scene: &Scene, suited: Suited) -> bool
-    ensures { result ≡ list_all (suits (scene_seen scene.now) suited) (below (scene_seen scene.now).known.sheet.players) }
+    ensures { result ≡ list_all (suits (scene_seen scene.now) suited)
+        (below (scene_seen scene.now).known.sheet.players) }
 {
     for player in 0..scene.sheet.players {
         if !does_suit(scene, suited, player) {
@@ -159,7 +161,8 @@ pub(crate) fn all_suit(scene: &Scene, suited: Suited) -> bool
 /// Whether one of the players' numbers is so.
 #[inline(never)]
 pub(crate) fn any_suit(scene: &Scene, suited: Suited) -> bool
-    ensures { result ≡ list_any (suits (scene_seen scene.now) suited) (below (scene_seen scene.now).known.sheet.players) }
+    ensures { result ≡ list_any (suits (scene_seen scene.now) suited)
+        (below (scene_seen scene.now).known.sheet.players) }
 {
     for player in 0..scene.sheet.players {
         if does_suit(scene, suited, player) {

@@ -43,8 +43,10 @@ fn frame_at(frames: &[Frame], place: usize) -> Frame
 #[inline(always)]
 pub fn current_inside(sheet: &Sheet, lookup: &Lookup, around: Current, frame: Frame) -> Current
     requires stages { AreStages (sheet_seen sheet.now) lookup.now.stages.items }
-    ensures player { result.player ≡ (if is_stage_of (sheet_seen sheet.now) player_class frame.stage then frame.member else around.player) }
-    ensures team { result.team ≡ (if is_stage_of (sheet_seen sheet.now) team_class frame.stage then frame.member else around.team) }
+    ensures player { result.player ≡
+        (if is_stage_of (sheet_seen sheet.now) player_class frame.stage then frame.member else around.player) }
+    ensures team { result.team ≡ (if is_stage_of
+        (sheet_seen sheet.now) team_class frame.stage then frame.member else around.team) }
 {
     let class = class_at(sheet, lookup, frame.stage);
     Current {

@@ -54,7 +54,9 @@ pub fn coll_of(scene: &Scene, scope: &Bindings, expr: &CollExpr, out: &mut Cards
 fn pass_from(scene: &Scene, scope: &Bindings, test: &Test, all: &Collection, out: &mut Cards)
     requires empty { out.old.items ≡ [] }
     requires fits { length scope.now + (1 + test_depth (test_seen test.now)) ≤ 5 }
-    ensures { values_seen out.new.items ≡ filter (λ c. test_value (scene_seen scene.now) (scope.now ++ card_bound c ∷ []) (test_seen test.now)) all.now }
+    ensures { values_seen out.new.items
+        ≡ filter (λ c. test_value (scene_seen scene.now) (scope.now ++ card_bound c ∷ [])
+        (test_seen test.now)) all.now }
 {
     let mut inside = scope.with(Bind::Player(0));
     match sought_of(scene, scope, &inside, test) {
@@ -70,7 +72,9 @@ fn pass_from(scene: &Scene, scope: &Bindings, test: &Test, all: &Collection, out
 #[cycle(values)]
 fn pass(scene: &Scene, scope: &Bindings, test: &Test, out: &mut Cards)
     requires fits { length scope.now + (1 + test_depth (test_seen test.now)) ≤ 5 }
-    ensures { values_seen out.new.items ≡ filter (λ c. test_value (scene_seen scene.now) (scope.now ++ card_bound c ∷ []) (test_seen test.now)) (values_seen out.old.items) }
+    ensures { values_seen out.new.items
+        ≡ filter (λ c. test_value (scene_seen scene.now) (scope.now ++ card_bound c ∷ []) (test_seen test.now))
+        (values_seen out.old.items) }
 {
     let mut inside = scope.with(Bind::Player(0));
     match sought_of(scene, scope, &inside, test) {
@@ -84,7 +88,9 @@ fn pass(scene: &Scene, scope: &Bindings, test: &Test, out: &mut Cards)
 fn pass_asked(scene: &Scene, scope: &Bindings, inside: &mut Bindings, test: &Test, out: &mut Cards)
     requires inside { inside.old ≡ scope.now ++ player_bound 0 ∷ [] }
     requires fits { length scope.now + (1 + test_depth (test_seen test.now)) ≤ 5 }
-    ensures { values_seen out.new.items ≡ filter (λ c. test_value (scene_seen scene.now) (scope.now ++ card_bound c ∷ []) (test_seen test.now)) (values_seen out.old.items) }
+    ensures { values_seen out.new.items
+        ≡ filter (λ c. test_value (scene_seen scene.now) (scope.now ++ card_bound c ∷ []) (test_seen test.now))
+        (values_seen out.old.items) }
 {
     let mut kept = 0;
     for place in 0..out.len() {
@@ -101,7 +107,8 @@ fn pass_asked(scene: &Scene, scope: &Bindings, inside: &mut Bindings, test: &Tes
 fn join(scene: &Scene, scope: &Bindings, parts: &Vec<CollExpr>, out: &mut Cards)
     requires empty { out.old.items ≡ [] }
     requires fits { length scope.now + colls_depth (colls_seen parts.now.items) ≤ 5 }
-    ensures { values_seen out.new.items ≡ cut (colls_value (scene_seen scene.now) scope.now (colls_seen parts.now.items)) }
+    ensures { values_seen out.new.items
+        ≡ cut (colls_value (scene_seen scene.now) scope.now (colls_seen parts.now.items)) }
 {
     for part in parts {
         add(scene, scope, part, out);
@@ -112,7 +119,8 @@ fn join(scene: &Scene, scope: &Bindings, parts: &Vec<CollExpr>, out: &mut Cards)
 #[cycle(values)]
 fn add(scene: &Scene, scope: &Bindings, expr: &CollExpr, out: &mut Cards)
     requires fits { length scope.now + coll_depth (coll_seen expr.now) ≤ 5 }
-    ensures is { values_seen out.new.items ≡ cut (values_seen out.old.items ++ coll_value (scene_seen scene.now) scope.now (coll_seen expr.now)) }
+    ensures is { values_seen out.new.items
+        ≡ cut (values_seen out.old.items ++ coll_value (scene_seen scene.now) scope.now (coll_seen expr.now)) }
     ensures few { length out.new.items ≤ most_in_collection }
 {
     match bare(&*scene, &*scope, expr) {
@@ -125,7 +133,8 @@ fn add(scene: &Scene, scope: &Bindings, expr: &CollExpr, out: &mut Cards)
 #[inline(never)]
 fn add_built(scene: &Scene, scope: &Bindings, expr: &CollExpr, out: &mut Cards)
     requires fits { length scope.now + coll_depth (coll_seen expr.now) ≤ 5 }
-    ensures is { values_seen out.new.items ≡ cut (values_seen out.old.items ++ coll_value (scene_seen scene.now) scope.now (coll_seen expr.now)) }
+    ensures is { values_seen out.new.items
+        ≡ cut (values_seen out.old.items ++ coll_value (scene_seen scene.now) scope.now (coll_seen expr.now)) }
     ensures few { length out.new.items ≤ most_in_collection }
 {
     let mut room = Cards::new();
@@ -152,7 +161,8 @@ pub fn card_of(scene: &Scene, scope: &Bindings, expr: &CardExpr) -> Option<Card>
 #[cycle(values)]
 fn top_of(scene: &Scene, scope: &Bindings, expr: &CollExpr) -> Option<Card>
     requires fits { length scope.now + coll_depth (coll_seen expr.now) ≤ 5 }
-    ensures { option_map value_seen result ≡ last_of (coll_value (scene_seen scene.now) scope.now (coll_seen expr.now)) }
+    ensures { option_map value_seen result
+        ≡ last_of (coll_value (scene_seen scene.now) scope.now (coll_seen expr.now)) }
 {
     match expr {
         CollExpr::Loc(loc) => top_card(scene, scope, loc),
@@ -164,7 +174,8 @@ fn top_of(scene: &Scene, scope: &Bindings, expr: &CollExpr) -> Option<Card>
 #[cycle(values)]
 fn bottom_of(scene: &Scene, scope: &Bindings, expr: &CollExpr) -> Option<Card>
     requires fits { length scope.now + coll_depth (coll_seen expr.now) ≤ 5 }
-    ensures { option_map value_seen result ≡ first_of (coll_value (scene_seen scene.now) scope.now (coll_seen expr.now)) }
+    ensures { option_map value_seen result
+        ≡ first_of (coll_value (scene_seen scene.now) scope.now (coll_seen expr.now)) }
 {
     match expr {
         CollExpr::Loc(loc) => bottom_card(scene, scope, loc),
@@ -215,7 +226,8 @@ fn id_at_bottom(scene: &Scene, scope: &Bindings, expr: &CollExpr) -> Option<u16>
 #[cycle(values)]
 pub(crate) fn value_of(scene: &Scene, scope: &Bindings, expr: &CardExpr, name: u16) -> Option<u16>
     requires fits { length scope.now + card_depth (card_seen expr.now) ≤ 5 }
-    ensures { result ≡ attr_of_any (scene_seen scene.now) name (card_value (scene_seen scene.now) scope.now (card_seen expr.now)) }
+    ensures { result ≡ attr_of_any (scene_seen scene.now) name
+        (card_value (scene_seen scene.now) scope.now (card_seen expr.now)) }
 {
     match value_at_hand(&*scene, &*scope, expr, name) {
         Some(value) => value,
@@ -228,7 +240,8 @@ pub(crate) fn value_of(scene: &Scene, scope: &Bindings, expr: &CardExpr, name: u
 #[inline(never)]
 fn value_asked(scene: &Scene, scope: &Bindings, expr: &CardExpr, name: u16) -> Option<u16>
     requires fits { length scope.now + card_depth (card_seen expr.now) ≤ 5 }
-    ensures { result ≡ attr_of_any (scene_seen scene.now) name (card_value (scene_seen scene.now) scope.now (card_seen expr.now)) }
+    ensures { result ≡ attr_of_any (scene_seen scene.now) name
+        (card_value (scene_seen scene.now) scope.now (card_seen expr.now)) }
 {
     attr_of_id(scene, id_now(scene, scope, expr), name)
 }
@@ -237,7 +250,8 @@ fn value_asked(scene: &Scene, scope: &Bindings, expr: &CardExpr, name: u16) -> O
 #[cycle(values)]
 fn points_of(scene: &Scene, scope: &Bindings, expr: &CardExpr, map: u16) -> i64
     requires fits { length scope.now + card_depth (card_seen expr.now) ≤ 5 }
-    ensures { result ≡ worth_of_any (scene_seen scene.now) map (card_value (scene_seen scene.now) scope.now (card_seen expr.now)) }
+    ensures { result ≡ worth_of_any (scene_seen scene.now) map
+        (card_value (scene_seen scene.now) scope.now (card_seen expr.now)) }
 {
     worth_of_id(scene, id_now(scene, scope, expr), map)
 }
@@ -245,7 +259,8 @@ fn points_of(scene: &Scene, scope: &Bindings, expr: &CardExpr, map: u16) -> i64
 #[cycle(values)]
 fn picked(scene: &Scene, scope: &Bindings, expr: &CollExpr, pick: Which) -> Option<Card>
     requires fits { length scope.now + coll_depth (coll_seen expr.now) ≤ 5 }
-    ensures { option_map value_seen result ≡ picked_of (scene_seen scene.now) pick (coll_value (scene_seen scene.now) scope.now (coll_seen expr.now)) }
+    ensures { option_map value_seen result
+        ≡ picked_of (scene_seen scene.now) pick (coll_value (scene_seen scene.now) scope.now (coll_seen expr.now)) }
 {
     match bare(&*scene, &*scope, expr) {
         Some(cards) => pick_from(scene, &cards, pick),
@@ -257,7 +272,8 @@ fn picked(scene: &Scene, scope: &Bindings, expr: &CollExpr, pick: Which) -> Opti
 #[inline(never)]
 fn picked_built(scene: &Scene, scope: &Bindings, expr: &CollExpr, pick: Which) -> Option<Card>
     requires fits { length scope.now + coll_depth (coll_seen expr.now) ≤ 5 }
-    ensures { option_map value_seen result ≡ picked_of (scene_seen scene.now) pick (coll_value (scene_seen scene.now) scope.now (coll_seen expr.now)) }
+    ensures { option_map value_seen result
+        ≡ picked_of (scene_seen scene.now) pick (coll_value (scene_seen scene.now) scope.now (coll_seen expr.now)) }
 {
     let mut room = Cards::new();
     coll_of(scene, scope, expr, &mut room);
@@ -295,7 +311,8 @@ fn int_asked(scene: &Scene, scope: &Bindings, expr: &IntExpr) -> i64
     }
 }
 
-// A number that is made of two others. In a function of its own, so that the others are found with nothing to be kept meanwhile.
+// A number that is made of two others. In a function of its own, so that the others are found with nothing to be kept
+// meanwhile.
 #[cycle(values)]
 #[inline(never)]
 fn calculated(scene: &Scene, scope: &Bindings, expr: &IntExpr) -> i64
@@ -381,7 +398,8 @@ fn count_parts(scene: &Scene, scope: &Bindings, parts: &Vec<CollExpr>) -> usize
 #[cycle(values)]
 fn sum_of(scene: &Scene, scope: &Bindings, expr: &CollExpr, map: u16) -> i64
     requires fits { length scope.now + coll_depth (coll_seen expr.now) ≤ 5 }
-    ensures { result ≡ sum_worth (scene_seen scene.now) map (coll_value (scene_seen scene.now) scope.now (coll_seen expr.now)) }
+    ensures { result ≡ sum_worth (scene_seen scene.now) map
+        (coll_value (scene_seen scene.now) scope.now (coll_seen expr.now)) }
 {
     match bare(&*scene, &*scope, expr) {
         Some(cards) => sum(scene, &cards, map),
@@ -393,7 +411,8 @@ fn sum_of(scene: &Scene, scope: &Bindings, expr: &CollExpr, map: u16) -> i64
 #[inline(never)]
 fn sum_built(scene: &Scene, scope: &Bindings, expr: &CollExpr, map: u16) -> i64
     requires fits { length scope.now + coll_depth (coll_seen expr.now) ≤ 5 }
-    ensures { result ≡ sum_worth (scene_seen scene.now) map (coll_value (scene_seen scene.now) scope.now (coll_seen expr.now)) }
+    ensures { result ≡ sum_worth (scene_seen scene.now) map
+        (coll_value (scene_seen scene.now) scope.now (coll_seen expr.now)) }
 {
     let mut room = Cards::new();
     coll_of(scene, scope, expr, &mut room);

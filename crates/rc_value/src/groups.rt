@@ -56,7 +56,8 @@ fn is_known(values: &Values, value: u16) -> bool
 
 /// Writes the cards that have this value of the attribute into a list, whatever it held before.
 pub fn regroup(scene: &Scene, cards: &Collection, name: u16, value: u16, group: &mut Cards)
-    ensures { values_seen group.new.items ≡ filter (λ c. both nat_same (attr_value (scene_seen scene.now) name c) (Some value)) cards.now }
+    ensures { values_seen group.new.items
+        ≡ filter (λ c. both nat_same (attr_value (scene_seen scene.now) name c) (Some value)) cards.now }
 {
     group.clear();
     for place in 0..cards.len() {
@@ -75,7 +76,8 @@ fn has_value(scene: &Scene, card: Card, name: u16, value: u16) -> bool
 // Puts a card behind others, where it passes.
 fn put(cards: &mut Cards, card: Card, passes: bool)
     requires room { length cards.old.items < most_in_collection }
-    ensures is { values_seen cards.new.items ≡ (if passes then values_seen cards.old.items ++ value_seen card ∷ [] else values_seen cards.old.items) }
+    ensures is { values_seen cards.new.items
+        ≡ (if passes then values_seen cards.old.items ++ value_seen card ∷ [] else values_seen cards.old.items) }
     ensures few { length cards.new.items ≤ length cards.old.items + 1 }
 {
     if passes {

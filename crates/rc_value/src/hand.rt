@@ -1,5 +1,6 @@
-//! What is at hand: numbers, values and tests that are read off the table with no list, and with no other test inside them. Most of
-//! what a game asks is so. These functions stand in line where they are called, and what isn't at hand is left to others.
+//! What is at hand: numbers, values and tests that are read off the table with no list, and with no other test inside
+//! them. Most of what a game asks is so. These functions stand in line where they are called, and what isn't at hand is
+//! left to others.
 ghost use Rattle.std.specs.Prelude.{◌≡◌, true, MatchOption, IfSome, int_lt, int_le, option_map, length, pos, Some};
 ghost use Rattle.std.specs.Ordering.{int_eq};
 ghost use Rattle.rc_play_model.specs.Ends.{last_of};
@@ -19,7 +20,8 @@ use rc_ast::{CardExpr, CollExpr, IntExpr, Test};
 /// The cards of a location or of a variable, which need no list of their own. None for another expression.
 #[inline(always)]
 pub fn bare<'a>(scene: &'a Scene, scope: &'a Bindings, expr: &CollExpr) -> Option<Collection<'a>>
-    ensures { MatchOption result (is_gathered (coll_seen expr.now) ≡ true) (λ cards. cards ≡ coll_value (scene_seen scene.now) scope.now (coll_seen expr.now)) }
+    ensures { MatchOption result (is_gathered (coll_seen expr.now) ≡ true)
+        (λ cards. cards ≡ coll_value (scene_seen scene.now) scope.now (coll_seen expr.now)) }
 {
     match expr {
         CollExpr::Var(var) => Some(scope.group(*var)),
@@ -58,7 +60,8 @@ fn size_at_hand(scene: &Scene, scope: &Bindings, expr: &CollExpr) -> Option<i64>
 // What a card is worth.
 #[inline(always)]
 fn points_at_hand(scene: &Scene, scope: &Bindings, expr: &CardExpr, map: u16) -> Option<i64>
-    ensures { IfSome result (λ n. n ≡ worth_of_any (scene_seen scene.now) map (card_value (scene_seen scene.now) scope.now (card_seen expr.now))) }
+    ensures { IfSome result (λ n. n ≡ worth_of_any (scene_seen scene.now) map
+        (card_value (scene_seen scene.now) scope.now (card_seen expr.now))) }
 {
     match id_at_hand(scene, scope, expr) {
         Some(id) => Some(worth_of_id(scene, id, map)),
@@ -69,7 +72,8 @@ fn points_at_hand(scene: &Scene, scope: &Bindings, expr: &CardExpr, map: u16) ->
 /// The id of a variable's card, or of the card at the top of a location; there may be none.
 #[inline(always)]
 fn id_at_hand(scene: &Scene, scope: &Bindings, expr: &CardExpr) -> Option<Option<u16>>
-    ensures { IfSome result (λ id. id ≡ option_map id_of (card_value (scene_seen scene.now) scope.now (card_seen expr.now))) }
+    ensures { IfSome result (λ id. id
+        ≡ option_map id_of (card_value (scene_seen scene.now) scope.now (card_seen expr.now))) }
 {
     match expr {
         CardExpr::Var(var) => Some(scope.id(*var)),
@@ -80,7 +84,8 @@ fn id_at_hand(scene: &Scene, scope: &Bindings, expr: &CardExpr) -> Option<Option
 
 #[inline(always)]
 fn id_on_top(scene: &Scene, scope: &Bindings, expr: &CollExpr) -> Option<Option<u16>>
-    ensures { IfSome result (λ id. id ≡ option_map id_of (last_of (coll_value (scene_seen scene.now) scope.now (coll_seen expr.now)))) }
+    ensures { IfSome result (λ id. id
+        ≡ option_map id_of (last_of (coll_value (scene_seen scene.now) scope.now (coll_seen expr.now)))) }
 {
     match expr {
         CollExpr::Loc(loc) => Some(top_id(scene, scope, loc)),
@@ -96,7 +101,8 @@ pub(crate) fn value_at_hand(
     expr: &CardExpr,
     name: u16,
 ) -> Option<Option<u16>>
-    ensures { IfSome result (λ v. v ≡ attr_of_any (scene_seen scene.now) name (card_value (scene_seen scene.now) scope.now (card_seen expr.now))) }
+    ensures { IfSome result (λ v. v ≡ attr_of_any (scene_seen scene.now) name
+        (card_value (scene_seen scene.now) scope.now (card_seen expr.now))) }
 {
     match id_at_hand(scene, scope, expr) {
         Some(id) => Some(attr_of_id(scene, id, name)),
@@ -107,7 +113,9 @@ pub(crate) fn value_at_hand(
 // Whether two numbers are equal, if they are at hand.
 #[inline(always)]
 fn equal_at_hand(scene: &Scene, scope: &Bindings, a: &IntExpr, b: &IntExpr) -> Option<bool>
-    ensures { IfSome result (λ is. is ≡ int_eq (int_value (scene_seen scene.now) scope.now (int_seen a.now)) (int_value (scene_seen scene.now) scope.now (int_seen b.now))) }
+    ensures { IfSome result (λ is. is
+        ≡ int_eq (int_value (scene_seen scene.now) scope.now (int_seen a.now))
+        (int_value (scene_seen scene.now) scope.now (int_seen b.now))) }
 {
     match number_at_hand(scene, scope, a) {
         Some(one) => match number_at_hand(scene, scope, b) {
@@ -121,7 +129,9 @@ fn equal_at_hand(scene: &Scene, scope: &Bindings, a: &IntExpr, b: &IntExpr) -> O
 // Whether one is less than the other.
 #[inline(always)]
 fn less_at_hand(scene: &Scene, scope: &Bindings, a: &IntExpr, b: &IntExpr) -> Option<bool>
-    ensures { IfSome result (λ is. is ≡ int_lt (int_value (scene_seen scene.now) scope.now (int_seen a.now)) (int_value (scene_seen scene.now) scope.now (int_seen b.now))) }
+    ensures { IfSome result (λ is. is
+        ≡ int_lt (int_value (scene_seen scene.now) scope.now (int_seen a.now))
+        (int_value (scene_seen scene.now) scope.now (int_seen b.now))) }
 {
     match number_at_hand(scene, scope, a) {
         Some(one) => match number_at_hand(scene, scope, b) {
@@ -135,7 +145,9 @@ fn less_at_hand(scene: &Scene, scope: &Bindings, a: &IntExpr, b: &IntExpr) -> Op
 // Whether one is at most the other.
 #[inline(always)]
 fn at_most_at_hand(scene: &Scene, scope: &Bindings, a: &IntExpr, b: &IntExpr) -> Option<bool>
-    ensures { IfSome result (λ is. is ≡ int_le (int_value (scene_seen scene.now) scope.now (int_seen a.now)) (int_value (scene_seen scene.now) scope.now (int_seen b.now))) }
+    ensures { IfSome result (λ is. is
+        ≡ int_le (int_value (scene_seen scene.now) scope.now (int_seen a.now))
+        (int_value (scene_seen scene.now) scope.now (int_seen b.now))) }
 {
     match number_at_hand(scene, scope, a) {
         Some(one) => match number_at_hand(scene, scope, b) {
@@ -155,7 +167,10 @@ fn same_value_at_hand(
     b: &CardExpr,
     other: u16,
 ) -> Option<bool>
-    ensures { IfSome result (λ is. is ≡ both nat_same (attr_of_any (scene_seen scene.now) name (card_value (scene_seen scene.now) scope.now (card_seen a.now))) (attr_of_any (scene_seen scene.now) other (card_value (scene_seen scene.now) scope.now (card_seen b.now)))) }
+    ensures { IfSome result (λ is. is
+        ≡ both nat_same (attr_of_any (scene_seen scene.now) name
+        (card_value (scene_seen scene.now) scope.now (card_seen a.now)))
+        (attr_of_any (scene_seen scene.now) other (card_value (scene_seen scene.now) scope.now (card_seen b.now)))) }
 {
     match value_at_hand(scene, scope, a, name) {
         Some(one) => match value_at_hand(scene, scope, b, other) {
@@ -174,7 +189,9 @@ fn has_value_at_hand(
     name: u16,
     value: u16,
 ) -> Option<bool>
-    ensures { IfSome result (λ is. is ≡ both nat_same (attr_of_any (scene_seen scene.now) name (card_value (scene_seen scene.now) scope.now (card_seen card.now))) (Some value)) }
+    ensures { IfSome result (λ is. is
+        ≡ both nat_same (attr_of_any (scene_seen scene.now) name
+        (card_value (scene_seen scene.now) scope.now (card_seen card.now))) (Some value)) }
 {
     match value_at_hand(scene, scope, card, name) {
         Some(has) => Some(has == Some(value)),

@@ -17,13 +17,15 @@ use crate::{Card, Cards};
 use rc_ast::Loc;
 use rc_table::{Table, sees};
 
-/// The cards of a location that the current player sees, written into an empty list: all where it sees the location, and otherwise those
-/// that are marked for it.
+/// The cards of a location that the current player sees, written into an empty list: all where it sees the location,
+/// and otherwise those that are marked for it.
 #[tactic(auto, unfolding(crate::specs::Scene::scene_seen))]
 #[inline(never)]
 pub fn fill_known(scene: &Scene, scope: &Bindings, loc: &Loc, out: &mut Cards)
     requires empty { out.old.items ≡ [] }
-    ensures { values_seen out.new.items ≡ cut (known_there (scene_seen scene.now) (loc_place (scene_seen scene.now).known scope.now (loc_seen loc.now))) }
+    ensures { values_seen out.new.items
+        ≡ cut (known_there (scene_seen scene.now)
+        (loc_place (scene_seen scene.now).known scope.now (loc_seen loc.now))) }
 {
     let Some(at) = loc_at(scene, scope, loc) else {
         return;
@@ -62,7 +64,8 @@ fn has_mark(table: &Table, id: u16, seat: u8) -> bool
 // Puts the card with this id behind others, where it passes.
 fn add_if(out: &mut Cards, id: u16, passes: bool)
     requires room { length out.old.items < most_in_collection }
-    ensures is { values_seen out.new.items ≡ (if passes then values_seen out.old.items ++ held id ∷ [] else values_seen out.old.items) }
+    ensures is { values_seen out.new.items
+        ≡ (if passes then values_seen out.old.items ++ held id ∷ [] else values_seen out.old.items) }
     ensures few { length out.new.items ≤ length out.old.items + 1 }
 {
     if passes {

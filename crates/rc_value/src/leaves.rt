@@ -45,7 +45,8 @@ fn worth_in(row: &[i64], id: u16) -> i64
 /// What the card with an id is worth by a point map; no card is worth nothing.
 #[inline(always)]
 pub fn worth_of_id(scene: &Scene, id: Option<u16>, map: u16) -> i64
-    ensures { (card : Option CardValue) → id ≡ option_map id_of card → result ≡ worth_of_any (scene_seen scene.now) map card }
+    ensures { (card : Option CardValue) → id ≡ option_map id_of card
+        → result ≡ worth_of_any (scene_seen scene.now) map card }
 {
     match id {
         Some(id) => worth_of(scene, Card::Held(id), map),
@@ -56,7 +57,8 @@ pub fn worth_of_id(scene: &Scene, id: Option<u16>, map: u16) -> i64
 /// The value of the card with an id for an attribute, if there is an id and its card has one.
 #[inline(always)]
 pub fn attr_of_id(scene: &Scene, id: Option<u16>, name: u16) -> Option<u16>
-    ensures { (card : Option CardValue) → id ≡ option_map id_of card → result ≡ attr_of_any (scene_seen scene.now) name card }
+    ensures { (card : Option CardValue) → id ≡ option_map id_of card
+        → result ≡ attr_of_any (scene_seen scene.now) name card }
 {
     match id {
         Some(id) => value_at(scene, id, name),
@@ -112,7 +114,8 @@ pub fn value_in(row: &[Option<u16>], id: u16) -> Option<u16>
 /// Whether two cards have the same face, or both are nothing.
 #[tactic(auto, unfolding(crate::specs::Scene::scene_seen))]
 pub fn are_same(scene: &Scene, a: Option<Card>, b: Option<Card>) -> bool
-    ensures { result ≡ both face_eq (option_map (scene_seen scene.now).face (option_map value_seen a)) (option_map (scene_seen scene.now).face (option_map value_seen b)) }
+    ensures { result ≡ both face_eq (option_map (scene_seen scene.now).face (option_map value_seen a))
+        (option_map (scene_seen scene.now).face (option_map value_seen b)) }
 {
     match a {
         None => b.is_none(),
@@ -127,7 +130,8 @@ pub fn are_same(scene: &Scene, a: Option<Card>, b: Option<Card>) -> bool
 #[tactic(auto, unfolding(crate::specs::Scene::scene_seen))]
 #[inline(always)]
 pub fn number_of(scene: &Scene, scope: &Bindings, num: &Num) -> i64
-    ensures { result ≡ number_there (scene_seen scene.now).known.numbers (num_place (scene_seen scene.now).known scope.now (num_seen num.now)) }
+    ensures { result ≡ number_there (scene_seen scene.now).known.numbers
+        (num_place (scene_seen scene.now).known scope.now (num_seen num.now)) }
 {
     match num_at(scene, scope, num) {
         Some(num) => scene.table.number(num),
@@ -151,7 +155,8 @@ fn mem_at(shape: &Shape, loc: u16) -> Option<u16>
 #[tactic(auto, unfolding(crate::specs::Scene::scene_seen))]
 #[inline(always)]
 pub fn cards_of<'a>(scene: &'a Scene, scope: &Bindings, loc: &Loc) -> Collection<'a>
-    ensures { result ≡ cut (cards_there (scene_seen scene.now) (loc_place (scene_seen scene.now).known scope.now (loc_seen loc.now))) }
+    ensures { result ≡ cut (cards_there (scene_seen scene.now)
+        (loc_place (scene_seen scene.now).known scope.now (loc_seen loc.now))) }
 {
     match loc_at(scene, scope, loc) {
         Some(loc) => Collection::there(scene.table.list(loc), mem_at(scene.table.shape(), loc)),

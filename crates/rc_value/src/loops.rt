@@ -98,7 +98,8 @@ fn sum_one_by_one(scene: &Scene, cards: &Collection, map: u16) -> i64
 
 // The first of the largest, or of the smallest.
 fn best(scene: &Scene, cards: &Collection, map: u16, largest: bool) -> Option<Card>
-    ensures { option_map value_seen result ≡ best_of (if largest then int_more else int_lt) (worth (scene_seen scene.now) map) cards.now }
+    ensures { option_map value_seen result
+        ≡ best_of (if largest then int_more else int_lt) (worth (scene_seen scene.now) map) cards.now }
 {
     let count = cards.len();
     if count == 0 {
@@ -113,7 +114,9 @@ fn best(scene: &Scene, cards: &Collection, map: u16, largest: bool) -> Option<Ca
 
 // The other card, where it is worth more, or less.
 fn better(scene: &Scene, found: Card, other: Card, map: u16, largest: bool) -> Card
-    ensures { value_seen result ≡ (if (if largest then int_more else int_lt) (worth (scene_seen scene.now) map (value_seen other)) (worth (scene_seen scene.now) map (value_seen found)) then value_seen other else value_seen found) }
+    ensures { value_seen result ≡ (if (if largest then int_more else int_lt)
+        (worth (scene_seen scene.now) map (value_seen other))
+        (worth (scene_seen scene.now) map (value_seen found)) then value_seen other else value_seen found) }
 {
     let a = worth_of(scene, other, map);
     let b = worth_of(scene, found, map);
@@ -124,7 +127,9 @@ fn better(scene: &Scene, found: Card, other: Card, map: u16, largest: bool) -> C
 /// Writes a card at the end of those kept so far, where it passes, and says how many are kept then.
 pub fn keep(cards: &mut Cards, kept: usize, card: Card, passes: bool) -> usize
     requires room { kept < length cards.old.items }
-    ensures is { values_seen cards.new.items ≡ (if passes then slice_set (values_seen cards.old.items) kept (value_seen card) else values_seen cards.old.items) }
+    ensures is { values_seen cards.new.items
+        ≡ (if passes then slice_set (values_seen cards.old.items) kept
+        (value_seen card) else values_seen cards.old.items) }
     ensures count { result ≡ (if passes then kept + 1 else kept) }
 {
     if passes {

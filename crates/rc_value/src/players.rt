@@ -1,5 +1,5 @@
-//! Tests of all players that go over what each has, with no variable: how many cards in a location of his, or how a number of his
-//! compares.
+//! Tests of all players that go over what each has, with no variable: how many cards in a location of his, or how a
+//! number of his compares.
 ghost use Rattle.std.specs.Prelude.{◌≡◌, ℕ, ◌≤◌, ◌++◌, ◌∷◌, [], map, IfSome};
 ghost use Rattle.std.specs.List.{list_all, list_any};
 ghost use Rattle.rc_model.specs.Numbers.{below};
@@ -70,7 +70,8 @@ fn name_of(expr: &CollExpr, place: usize) -> Option<u16>
 }
 
 fn name_at(loc: &Loc, place: usize) -> Option<u16>
-    ensures { IfSome result (λ name. (loc_seen loc.now ≡ record { who = who_var place; name = name; at = loc.now.at })) }
+    ensures { IfSome result (λ name.
+        (loc_seen loc.now ≡ record { who = who_var place; name = name; at = loc.now.at })) }
 {
     match loc.who {
         Who::Var(var) if var as usize == place => Some(loc.name),
@@ -81,7 +82,9 @@ fn name_at(loc: &Loc, place: usize) -> Option<u16>
 /// Whether a test holds for each player, if it asks how many cards he has, or how a number of his compares.
 #[inline(always)]
 pub(crate) fn all_at_once(scene: &Scene, scope: &Bindings, test: &Test) -> Option<bool>
-    ensures { IfSome result (λ holds. holds ≡ list_all (λ m. test_value (scene_seen scene.now) (scope.now ++ m ∷ []) (test_seen test.now)) (map (λ n. player_bound n) (below (scene_seen scene.now).known.sheet.players))) }
+    ensures { IfSome result (λ holds. holds
+        ≡ list_all (λ m. test_value (scene_seen scene.now) (scope.now ++ m ∷ []) (test_seen test.now))
+        (map (λ n. player_bound n) (below (scene_seen scene.now).known.sheet.players))) }
 {
     match holding_of(test, scope.len()) {
         Some(holding) => Some(all_hold(scene, holding)),
@@ -95,7 +98,9 @@ pub(crate) fn all_at_once(scene: &Scene, scope: &Bindings, test: &Test) -> Optio
 /// Whether it holds for one of them.
 #[inline(always)]
 pub(crate) fn any_at_once(scene: &Scene, scope: &Bindings, test: &Test) -> Option<bool>
-    ensures { IfSome result (λ holds. holds ≡ list_any (λ m. test_value (scene_seen scene.now) (scope.now ++ m ∷ []) (test_seen test.now)) (map (λ n. player_bound n) (below (scene_seen scene.now).known.sheet.players))) }
+    ensures { IfSome result (λ holds. holds
+        ≡ list_any (λ m. test_value (scene_seen scene.now) (scope.now ++ m ∷ []) (test_seen test.now))
+        (map (λ n. player_bound n) (below (scene_seen scene.now).known.sheet.players))) }
 {
     match holding_of(test, scope.len()) {
         Some(holding) => Some(any_hold(scene, holding)),
@@ -106,11 +111,14 @@ pub(crate) fn any_at_once(scene: &Scene, scope: &Bindings, test: &Test) -> Optio
     }
 }
 
-/// Whether each player has so many cards in his location of a name. Neither the word of the test's variable nor the offset of the
-/// location's form matters.
+/// Whether each player has so many cards in his location of a name. Neither the word of the test's variable nor the
+/// offset of the location's form matters.
 #[inline(always)]
 pub fn each_has(scene: &Scene, name: u16, count: i64) -> bool
-    ensures { (bound at : ℕ) → result ≡ test_value (scene_seen scene.now) [] (all_of each_player bound (eq_int (size_expr (cards_in (record { who = who_var 0; name = name; at = at }))) (literal count))) }
+    ensures { (bound at : ℕ) → result
+        ≡ test_value (scene_seen scene.now) []
+        (all_of each_player bound (eq_int (size_expr (cards_in (record { who = who_var 0; name = name; at = at })))
+        (literal count))) }
 {
     all_hold(scene, Holding { name, count })
 }
@@ -118,7 +126,8 @@ pub fn each_has(scene: &Scene, name: u16, count: i64) -> bool
 /// Whether each player has so many.
 #[inline(always)]
 fn all_hold(scene: &Scene, holding: Holding) -> bool
-    ensures { result ≡ list_all (holds (scene_seen scene.now) holding) (below (scene_seen scene.now).known.sheet.players) }
+    ensures { result ≡ list_all (holds (scene_seen scene.now) holding)
+        (below (scene_seen scene.now).known.sheet.players) }
 {
     for player in 0..scene.sheet.players {
         if !does_hold(scene, holding, player) {
@@ -130,7 +139,8 @@ fn all_hold(scene: &Scene, holding: Holding) -> bool
 
 /// Whether one of the players has so many.
 fn any_hold(scene: &Scene, holding: Holding) -> bool
-    ensures { result ≡ list_any (holds (scene_seen scene.now) holding) (below (scene_seen scene.now).known.sheet.players) }
+    ensures { result ≡ list_any (holds (scene_seen scene.now) holding)
+        (below (scene_seen scene.now).known.sheet.players) }
 {
     for player in 0..scene.sheet.players {
         if does_hold(scene, holding, player) {

@@ -20,7 +20,9 @@ use rc_table::Shape;
 #[tactic(auto, unfolding(crate::specs::Scene::scene_seen))]
 #[inline(always)]
 pub fn ids_of<'a>(scene: &'a Scene, scope: &Bindings, loc: &Loc) -> &'a [u16]
-    ensures is { result.now ≡ map id_of (cut (cards_there (scene_seen scene.now) (loc_place (scene_seen scene.now).known scope.now (loc_seen loc.now)))) }
+    ensures is { result.now ≡ map id_of
+        (cut (cards_there (scene_seen scene.now)
+        (loc_place (scene_seen scene.now).known scope.now (loc_seen loc.now)))) }
     ensures few { length result.now ≤ most_in_list }
 {
     match loc_at(scene, scope, loc) {
@@ -46,7 +48,9 @@ fn first(ids: &[u16]) -> Option<u16>
 /// The id of the card at the top of a location, if one is there.
 #[inline(always)]
 pub fn top_id(scene: &Scene, scope: &Bindings, loc: &Loc) -> Option<u16>
-    ensures { result ≡ option_map id_of (last_of (cut (cards_there (scene_seen scene.now) (loc_place (scene_seen scene.now).known scope.now (loc_seen loc.now))))) }
+    ensures { result ≡ option_map id_of
+        (last_of (cut (cards_there (scene_seen scene.now)
+        (loc_place (scene_seen scene.now).known scope.now (loc_seen loc.now))))) }
 {
     last(ids_of(scene, scope, loc))
 }
@@ -54,7 +58,9 @@ pub fn top_id(scene: &Scene, scope: &Bindings, loc: &Loc) -> Option<u16>
 /// The id of the card at the bottom of a location, if one is there.
 #[inline(always)]
 pub fn bottom_id(scene: &Scene, scope: &Bindings, loc: &Loc) -> Option<u16>
-    ensures { result ≡ option_map id_of (first_of (cut (cards_there (scene_seen scene.now) (loc_place (scene_seen scene.now).known scope.now (loc_seen loc.now))))) }
+    ensures { result ≡ option_map id_of
+        (first_of (cut (cards_there (scene_seen scene.now)
+        (loc_place (scene_seen scene.now).known scope.now (loc_seen loc.now))))) }
 {
     first(ids_of(scene, scope, loc))
 }
@@ -62,7 +68,8 @@ pub fn bottom_id(scene: &Scene, scope: &Bindings, loc: &Loc) -> Option<u16>
 // The card that an id of a location stands for, if there is one.
 #[inline(always)]
 fn card_in(shape: &Shape, loc: u16, id: Option<u16>) -> Option<Card>
-    ensures { option_map value_seen result ≡ option_map (value_in (holds_references (slice_get shape.now.places loc)) loc) id }
+    ensures { option_map value_seen result
+        ≡ option_map (value_in (holds_references (slice_get shape.now.places loc)) loc) id }
 {
     match id {
         Some(id) => {
@@ -79,7 +86,9 @@ fn card_in(shape: &Shape, loc: u16, id: Option<u16>) -> Option<Card>
 /// The card at the top of a location, if one is there.
 #[tactic(auto, unfolding(crate::specs::Scene::scene_seen))]
 pub fn top_card(scene: &Scene, scope: &Bindings, loc: &Loc) -> Option<Card>
-    ensures { option_map value_seen result ≡ last_of (cut (cards_there (scene_seen scene.now) (loc_place (scene_seen scene.now).known scope.now (loc_seen loc.now)))) }
+    ensures { option_map value_seen result
+        ≡ last_of (cut (cards_there (scene_seen scene.now)
+        (loc_place (scene_seen scene.now).known scope.now (loc_seen loc.now)))) }
 {
     match loc_at(scene, scope, loc) {
         Some(at) => card_in(scene.table.shape(), at, last(scene.table.list(at))),
@@ -90,7 +99,9 @@ pub fn top_card(scene: &Scene, scope: &Bindings, loc: &Loc) -> Option<Card>
 /// The card at the bottom of a location, if one is there.
 #[tactic(auto, unfolding(crate::specs::Scene::scene_seen))]
 pub fn bottom_card(scene: &Scene, scope: &Bindings, loc: &Loc) -> Option<Card>
-    ensures { option_map value_seen result ≡ first_of (cut (cards_there (scene_seen scene.now) (loc_place (scene_seen scene.now).known scope.now (loc_seen loc.now)))) }
+    ensures { option_map value_seen result
+        ≡ first_of (cut (cards_there (scene_seen scene.now)
+        (loc_place (scene_seen scene.now).known scope.now (loc_seen loc.now)))) }
 {
     match loc_at(scene, scope, loc) {
         Some(at) => card_in(scene.table.shape(), at, first(scene.table.list(at))),

@@ -39,7 +39,8 @@ impl<'s> Scene<'s> {
     ) -> Scene<'s>
         requires well { IsWellFormed (sheet_seen sheet.now) }
         requires looked_up { IsLookup (sheet_seen sheet.now) table.now.shape lookup.now }
-        ensures { scene_seen result ≡ scene_of (sheet_seen sheet.now) table.now.shape table.now.table (frames_seen frames.now) }
+        ensures { scene_seen result ≡ scene_of (sheet_seen sheet.now) table.now.shape table.now.table
+            (frames_seen frames.now) }
     {
         let current = current_of(sheet, lookup, frames);
         Scene::with_current(sheet, lookup, table, frames, current)
@@ -57,7 +58,8 @@ impl<'s> Scene<'s> {
         requires well { IsWellFormed (sheet_seen sheet.now) }
         requires looked_up { IsLookup (sheet_seen sheet.now) table.now.shape lookup.now }
         requires current_is { IsCurrent (sheet_seen sheet.now) (frames_seen frames.now) current }
-        ensures { scene_seen result ≡ scene_of (sheet_seen sheet.now) table.now.shape table.now.table (frames_seen frames.now) }
+        ensures { scene_seen result ≡ scene_of (sheet_seen sheet.now) table.now.shape table.now.table
+            (frames_seen frames.now) }
     {
         expressions_bind_few();
         Scene {

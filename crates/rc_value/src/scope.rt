@@ -69,7 +69,8 @@ impl<'g> Bindings<'g> {
     #[inline(always)]
     pub fn rebind(&mut self, bind: Bind<'g>)
         requires { 0 < length self.old }
-        ensures { (vars : List (PureBind CardValue)) (m : PureBind CardValue) → self.old ≡ vars ++ m ∷ [] → self.new ≡ vars ++ bind_seen bind.entry ∷ [] }
+        ensures { (vars : List (PureBind CardValue)) (m : PureBind CardValue) → self.old ≡ vars ++ m ∷ []
+            → self.new ≡ vars ++ bind_seen bind.entry ∷ [] }
     {
         let last = self.count - 1;
         let binds = &mut self.binds[..];

@@ -138,7 +138,8 @@ fn count_one_by_one(scene: &Scene, sought: Sought, cards: &Collection) -> usize
 
 /// Keeps the cards that are so.
 pub(crate) fn keep_as_sought(scene: &Scene, sought: Sought, cards: &mut Cards)
-    ensures { values_seen cards.new.items ≡ filter (sought_value (scene_seen scene.now) sought) (values_seen cards.old.items) }
+    ensures { values_seen cards.new.items
+        ≡ filter (sought_value (scene_seen scene.now) sought) (values_seen cards.old.items) }
 {
     let mut kept = 0;
     for place in 0..cards.len() {
@@ -164,7 +165,8 @@ pub(crate) fn fill_as_sought(scene: &Scene, sought: Sought, cards: &Collection, 
 #[inline(always)]
 fn push_if(out: &mut Cards, card: Card, passes: bool)
     requires room { length out.old.items < most_in_collection }
-    ensures { values_seen out.new.items ≡ (if passes then values_seen out.old.items ++ value_seen card ∷ [] else values_seen out.old.items) }
+    ensures { values_seen out.new.items
+        ≡ (if passes then values_seen out.old.items ++ value_seen card ∷ [] else values_seen out.old.items) }
 {
     if passes {
         out.push(card);

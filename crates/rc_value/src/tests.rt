@@ -128,8 +128,8 @@ fn over_cards(scene: &Scene, scope: &Bindings, expr: &Test) -> bool
     }
 }
 
-/// A test of the innermost variable's card as a value that the card is to have, if it is one. What the card's value is compared with
-/// doesn't read the variable: so it is taken once for all cards.
+/// A test of the innermost variable's card as a value that the card is to have, if it is one. What the card's value is
+/// compared with doesn't read the variable: so it is taken once for all cards.
 #[cycle(values)]
 pub fn wanted_of(scene: &Scene, scope: &Bindings, inside: &Bindings, test: &Test) -> Option<Wanted>
     requires inside { inside.now ≡ scope.now ++ player_bound 0 ∷ [] }
@@ -210,13 +210,14 @@ fn value_once(
 ) -> Option<u16>
     requires inside { inside.now ≡ scope.now ++ player_bound 0 ∷ [] }
     requires fits { length scope.now + (1 + card_depth (card_seen card.now)) ≤ 5 }
-    ensures { result ≡ attr_of_any (scene_seen scene.now) name (card_value (scene_seen scene.now) (scope.now ++ player_bound 0 ∷ []) (card_seen card.now)) }
+    ensures { result ≡ attr_of_any (scene_seen scene.now) name
+        (card_value (scene_seen scene.now) (scope.now ++ player_bound 0 ∷ []) (card_seen card.now)) }
 {
     value_of(scene, inside, card, name)
 }
 
-// What a test asks of the innermost variable's card: its value or its face, or an opposite of these. All else that the test reads is
-// read once for all cards.
+// What a test asks of the innermost variable's card: its value or its face, or an opposite of these. All else that the
+// test reads is read once for all cards.
 #[cycle(values)]
 pub(crate) fn sought_of(
     scene: &Scene,
@@ -267,7 +268,8 @@ fn like_once(scene: &Scene, scope: &Bindings, inside: &Bindings, card: &CardExpr
     requires inside { inside.now ≡ scope.now ++ player_bound 0 ∷ [] }
     requires fits { length scope.now + (1 + card_depth (card_seen card.now)) ≤ 5 }
     ensures { sought_value (scene_seen scene.now) result
-        ≡ has_face (scene_seen scene.now) (card_value (scene_seen scene.now) (scope.now ++ player_bound 0 ∷ []) (card_seen card.now)) }
+        ≡ has_face (scene_seen scene.now)
+        (card_value (scene_seen scene.now) (scope.now ++ player_bound 0 ∷ []) (card_seen card.now)) }
 {
     Sought::Face(Likeness {
         card: card_of(scene, inside, card),
@@ -339,7 +341,8 @@ fn any_test(scene: &Scene, scope: &Bindings, tests: &Vec<Test>) -> bool
 #[inline(never)]
 fn all_players(scene: &Scene, scope: &Bindings, test: &Test) -> bool
     requires fits { length scope.now + (1 + test_depth (test_seen test.now)) ≤ 5 }
-    ensures { result ≡ list_all (λ m. test_value (scene_seen scene.now) (scope.now ++ m ∷ []) (test_seen test.now)) (map (λ n. player_bound n) (below (scene_seen scene.now).known.sheet.players)) }
+    ensures { result ≡ list_all (λ m. test_value (scene_seen scene.now) (scope.now ++ m ∷ []) (test_seen test.now))
+        (map (λ n. player_bound n) (below (scene_seen scene.now).known.sheet.players)) }
 {
     match all_at_once(&*scene, &*scope, test) {
         Some(holds) => holds,
@@ -352,7 +355,8 @@ fn all_players(scene: &Scene, scope: &Bindings, test: &Test) -> bool
 #[inline(never)]
 fn all_players_asked(scene: &Scene, scope: &Bindings, test: &Test) -> bool
     requires fits { length scope.now + (1 + test_depth (test_seen test.now)) ≤ 5 }
-    ensures { result ≡ list_all (λ m. test_value (scene_seen scene.now) (scope.now ++ m ∷ []) (test_seen test.now)) (map (λ n. player_bound n) (below (scene_seen scene.now).known.sheet.players)) }
+    ensures { result ≡ list_all (λ m. test_value (scene_seen scene.now) (scope.now ++ m ∷ []) (test_seen test.now))
+        (map (λ n. player_bound n) (below (scene_seen scene.now).known.sheet.players)) }
 {
     let mut inside = scope.with(Bind::Player(0));
     for player in 0..scene.sheet.players {
@@ -368,7 +372,8 @@ fn all_players_asked(scene: &Scene, scope: &Bindings, test: &Test) -> bool
 #[inline(never)]
 fn any_player(scene: &Scene, scope: &Bindings, test: &Test) -> bool
     requires fits { length scope.now + (1 + test_depth (test_seen test.now)) ≤ 5 }
-    ensures { result ≡ list_any (λ m. test_value (scene_seen scene.now) (scope.now ++ m ∷ []) (test_seen test.now)) (map (λ n. player_bound n) (below (scene_seen scene.now).known.sheet.players)) }
+    ensures { result ≡ list_any (λ m. test_value (scene_seen scene.now) (scope.now ++ m ∷ []) (test_seen test.now))
+        (map (λ n. player_bound n) (below (scene_seen scene.now).known.sheet.players)) }
 {
     match any_at_once(&*scene, &*scope, test) {
         Some(holds) => holds,
@@ -381,7 +386,8 @@ fn any_player(scene: &Scene, scope: &Bindings, test: &Test) -> bool
 #[inline(never)]
 fn any_player_asked(scene: &Scene, scope: &Bindings, test: &Test) -> bool
     requires fits { length scope.now + (1 + test_depth (test_seen test.now)) ≤ 5 }
-    ensures { result ≡ list_any (λ m. test_value (scene_seen scene.now) (scope.now ++ m ∷ []) (test_seen test.now)) (map (λ n. player_bound n) (below (scene_seen scene.now).known.sheet.players)) }
+    ensures { result ≡ list_any (λ m. test_value (scene_seen scene.now) (scope.now ++ m ∷ []) (test_seen test.now))
+        (map (λ n. player_bound n) (below (scene_seen scene.now).known.sheet.players)) }
 {
     let mut inside = scope.with(Bind::Player(0));
     for player in 0..scene.sheet.players {
@@ -396,7 +402,8 @@ fn any_player_asked(scene: &Scene, scope: &Bindings, test: &Test) -> bool
 #[cycle(values)]
 fn all_cards(scene: &Scene, scope: &Bindings, cards: &Collection, test: &Test) -> bool
     requires fits { length scope.now + (1 + test_depth (test_seen test.now)) ≤ 5 }
-    ensures { result ≡ list_all (λ m. test_value (scene_seen scene.now) (scope.now ++ m ∷ []) (test_seen test.now)) (map (λ c. card_bound c) cards.now) }
+    ensures { result ≡ list_all (λ m. test_value (scene_seen scene.now) (scope.now ++ m ∷ []) (test_seen test.now))
+        (map (λ c. card_bound c) cards.now) }
 {
     match wanted_at_hand(&*scene, &*scope, test) {
         Some(wanted) => all_as_wanted(scene, wanted, cards),
@@ -409,7 +416,8 @@ fn all_cards(scene: &Scene, scope: &Bindings, cards: &Collection, test: &Test) -
 #[inline(never)]
 fn all_cards_wanted(scene: &Scene, scope: &Bindings, cards: &Collection, test: &Test) -> bool
     requires fits { length scope.now + (1 + test_depth (test_seen test.now)) ≤ 5 }
-    ensures { result ≡ list_all (λ m. test_value (scene_seen scene.now) (scope.now ++ m ∷ []) (test_seen test.now)) (map (λ c. card_bound c) cards.now) }
+    ensures { result ≡ list_all (λ m. test_value (scene_seen scene.now) (scope.now ++ m ∷ []) (test_seen test.now))
+        (map (λ c. card_bound c) cards.now) }
 {
     let mut inside = scope.with(Bind::Player(0));
     match sought_of(scene, scope, &inside, test) {
@@ -429,7 +437,8 @@ fn all_cards_asked(
 ) -> bool
     requires inside { inside.old ≡ scope.now ++ player_bound 0 ∷ [] }
     requires fits { length scope.now + (1 + test_depth (test_seen test.now)) ≤ 5 }
-    ensures { result ≡ list_all (λ m. test_value (scene_seen scene.now) (scope.now ++ m ∷ []) (test_seen test.now)) (map (λ c. card_bound c) cards.now) }
+    ensures { result ≡ list_all (λ m. test_value (scene_seen scene.now) (scope.now ++ m ∷ []) (test_seen test.now))
+        (map (λ c. card_bound c) cards.now) }
 {
     for place in 0..cards.len() {
         inside.rebind(Bind::Card(cards.at(place)));
@@ -443,7 +452,8 @@ fn all_cards_asked(
 #[cycle(values)]
 fn any_card(scene: &Scene, scope: &Bindings, cards: &Collection, test: &Test) -> bool
     requires fits { length scope.now + (1 + test_depth (test_seen test.now)) ≤ 5 }
-    ensures { result ≡ list_any (λ m. test_value (scene_seen scene.now) (scope.now ++ m ∷ []) (test_seen test.now)) (map (λ c. card_bound c) cards.now) }
+    ensures { result ≡ list_any (λ m. test_value (scene_seen scene.now) (scope.now ++ m ∷ []) (test_seen test.now))
+        (map (λ c. card_bound c) cards.now) }
 {
     match wanted_at_hand(&*scene, &*scope, test) {
         Some(wanted) => some_as_wanted(scene, wanted, cards),
@@ -456,7 +466,8 @@ fn any_card(scene: &Scene, scope: &Bindings, cards: &Collection, test: &Test) ->
 #[inline(never)]
 fn any_card_wanted(scene: &Scene, scope: &Bindings, cards: &Collection, test: &Test) -> bool
     requires fits { length scope.now + (1 + test_depth (test_seen test.now)) ≤ 5 }
-    ensures { result ≡ list_any (λ m. test_value (scene_seen scene.now) (scope.now ++ m ∷ []) (test_seen test.now)) (map (λ c. card_bound c) cards.now) }
+    ensures { result ≡ list_any (λ m. test_value (scene_seen scene.now) (scope.now ++ m ∷ []) (test_seen test.now))
+        (map (λ c. card_bound c) cards.now) }
 {
     let mut inside = scope.with(Bind::Player(0));
     match sought_of(scene, scope, &inside, test) {
@@ -476,7 +487,8 @@ fn any_card_asked(
 ) -> bool
     requires inside { inside.old ≡ scope.now ++ player_bound 0 ∷ [] }
     requires fits { length scope.now + (1 + test_depth (test_seen test.now)) ≤ 5 }
-    ensures { result ≡ list_any (λ m. test_value (scene_seen scene.now) (scope.now ++ m ∷ []) (test_seen test.now)) (map (λ c. card_bound c) cards.now) }
+    ensures { result ≡ list_any (λ m. test_value (scene_seen scene.now) (scope.now ++ m ∷ []) (test_seen test.now))
+        (map (λ c. card_bound c) cards.now) }
 {
     for place in 0..cards.len() {
         inside.rebind(Bind::Card(cards.at(place)));

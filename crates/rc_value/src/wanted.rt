@@ -242,8 +242,8 @@ fn is_against_fixed(expr: &CardExpr, other: &CardExpr, place: usize) -> bool
     is_variable(expr, place) && is_fixed(other)
 }
 
-/// A test of the innermost variable's card as a value that the card is to have, where that is at hand: a value that the sheet names, or
-/// that of the card at the top of a location that no variable owns.
+/// A test of the innermost variable's card as a value that the card is to have, where that is at hand: a value that the
+/// sheet names, or that of the card at the top of a location that no variable owns.
 #[inline(always)]
 pub(crate) fn wanted_at_hand(scene: &Scene, scope: &Bindings, test: &Test) -> Option<Wanted>
     ensures { IfSome result (IsWanted (scene_seen scene.now) scope.now (test_seen test.now)) }

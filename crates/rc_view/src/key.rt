@@ -18,9 +18,9 @@ use std::alloc::Global;
 // What stands for no site and for no named member.
 const NONE: u8 = 255;
 
-/// The bytes by which a view is known. Numbers have their lowest bytes first. Two views of one shape have equal bytes exactly
-/// where they are equal. Its numbers are within -1,000,000,000 .. 1,000,000,000, and each location has at most 512 cards, as in
-/// every view of a table. The bytes of a view of a match are fewer than 8,000. Memory may run out.
+/// The bytes by which a view is known. Numbers have their lowest bytes first. Two views of one shape have equal bytes
+/// exactly where they are equal. Its numbers are within -1,000,000,000 .. 1,000,000,000, and each location has at most
+/// 512 cards, as in every view of a table. The bytes of a view of a match are fewer than 8,000. Memory may run out.
 pub fn key_bytes(alloc: Global, view: &View) -> Result<Vec<u8>, Memory>
     requires { HasKey (view_seen view.now) }
     ensures is { IfOk result (λ bytes. bytes.items ≡ key_of (view_seen view.now)) }
@@ -141,7 +141,8 @@ fn push_known(numbers: &[Option<u16>], bytes: &mut Vec<u8>) -> Result<(), Memory
     requires { length numbers.now ≤ most_in_list }
     ensures { OnOk result (bytes.new.items ≡ bytes.old.items
         ++ (to_le_bytes w16 (length numbers.now)
-        ++ (to_le_bytes w16 (length (known_places 0 numbers.now)) ++ flat_map place_key (known_places 0 numbers.now)))) }
+        ++ (to_le_bytes w16 (length (known_places 0 numbers.now))
+        ++ flat_map place_key (known_places 0 numbers.now)))) }
 {
     bytes.extend_from_slice(&(numbers.len() as u16).to_le_bytes())?;
     bytes.extend_from_slice(&known_count(numbers).to_le_bytes())?;

@@ -10,8 +10,8 @@ use rc_deck::Memory;
 use rc_table::{Shape, Table, face_number, sees};
 use std::alloc::Global;
 
-/// The numbers of the faces of a location's cards from bottom to top where the seat sees it. Otherwise for each place that of a card that
-/// is marked for the seat, and nothing where the card isn't.
+/// The numbers of the faces of a location's cards from bottom to top where the seat sees it. Otherwise for each place
+/// that of a card that is marked for the seat, and nothing where the card isn't.
 #[derive(Debug)]
 pub enum Sight {
     Faces(Vec<u16>),
@@ -55,7 +55,8 @@ pub(crate) fn sights_of(
 ) -> Result<Vec<Sight>, Memory>
     requires laid { table.now.shape ≡ shape.now }
     requires seat { seat < 8 }
-    ensures { IfOk result (λ sights. map sight_seen sights.items ≡ sights_of_lists shape.now table.now.table.marks seat shape.now.places table.now.table.lists) }
+    ensures { IfOk result (λ sights. map sight_seen sights.items
+        ≡ sights_of_lists shape.now table.now.table.marks seat shape.now.places table.now.table.lists) }
 {
     // what a table keeps
     let _shape = table.shape();
@@ -78,7 +79,8 @@ fn sight_of(
     requires laid { table.now.shape ≡ shape.now }
     requires seat { seat < 8 }
     ensures { IfOk result (λ sight. sight_seen sight
-        ≡ sight_of_list shape.now table.now.table.marks seat (sees_faces shape.now seat loc) (list_at table.now.table loc)) }
+        ≡ sight_of_list shape.now table.now.table.marks seat (sees_faces shape.now seat loc)
+        (list_at table.now.table loc)) }
 {
     // what a table keeps
     let _shape = table.shape();

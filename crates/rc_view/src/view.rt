@@ -14,8 +14,8 @@ use rc_rules::Control;
 use rc_table::{Shape, Table};
 use std::alloc::Global;
 
-/// What a seat sees of a match: where the match stands beside its table, all numbers, and of each location the faces or else
-/// those that are marked for it.
+/// What a seat sees of a match: where the match stands beside its table, all numbers, and of each location the faces or
+/// else those that are marked for it.
 #[derive(Debug)]
 pub struct View {
     pub seat: u8,
@@ -52,8 +52,8 @@ impl View {
     }
 }
 
-/// What a player sees of a table and of where its match stands. Two views of a player are equal exactly where the states are
-/// alike to it: they differ at most in faces that it doesn't see. Memory may run out.
+/// What a player sees of a table and of where its match stands. Two views of a player are equal exactly where the
+/// states are alike to it: they differ at most in faces that it doesn't see. Memory may run out.
 pub fn view_of(
     alloc: Global,
     shape: &Shape,
@@ -63,10 +63,12 @@ pub fn view_of(
 ) -> Result<View, Memory>
     requires laid { table.now.shape ≡ shape.now }
     requires seat { seat < shape.now.players }
-    ensures is { IfOk result (λ view. view_seen view ≡ view_of_state shape.now seat table.now.table (control_seen control.now)) }
+    ensures is { IfOk result (λ view. view_seen view
+        ≡ view_of_state shape.now seat table.now.table (control_seen control.now)) }
     ensures alike { EqualViewsAlike }
     ensures key { IfOk result (λ view. HasKey (view_seen view)) }
-    ensures within { IfOk result (λ view. HasControlKey (control_seen control.now) → length control.now.made.items ≡ shape.now.players
+    ensures within { IfOk result (λ view. HasControlKey (control_seen control.now)
+        → length control.now.made.items ≡ shape.now.players
         → IsViewIn shape.now (view_seen view)) }
 {
     views_are_equal_where_states_are_alike();

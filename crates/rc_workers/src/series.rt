@@ -20,10 +20,11 @@ use std::marker::Brand;
 use std::sync::{Arc, Mutex, Wait};
 use std::thread::Threads;
 
-/// Plays the matches of a plan for a checked sheet by so many workers, 1 to 64, each in a thread of its own where one can be made.
-/// The plan is within the limits, and has a strategy for each player. What choices bind is noted, where that is asked for. What rollouts
-/// find is kept in one book of so many entries, 1 to 65,536, that all workers share; its totals tell its room, and that it had a lane
-/// for each worker. How many of the looks hit depends on which worker comes first; not all do. Memory may run out.
+/// Plays the matches of a plan for a checked sheet by so many workers, 1 to 64, each in a thread of its own where one
+/// can be made. The plan is within the limits, and has a strategy for each player. What choices bind is noted, where
+/// that is asked for. What rollouts find is kept in one book of so many entries, 1 to 65,536, that all workers share;
+/// its totals tell its room, and that it had a lane for each worker. How many of the looks hit depends on which worker
+/// comes first; not all do. Memory may run out.
 pub fn series_by_workers<R: Threads + Wait + Sync, G: Gate>(
     rt: &R,
     alloc: Global,
@@ -38,12 +39,14 @@ pub fn series_by_workers<R: Threads + Wait + Sync, G: Gate>(
     requires seats { length (plan_seen plan).strategies ≡ checked.players }
     requires workers { (1 ≤ workers) × (workers ≤ most_workers) }
     requires capacity { (1 ≤ capacity) × (capacity ≤ most_entries) }
-    ensures matches { IfOk result (λ series. map record_seen series.named.text.matches.items ≡ matches_of (about_of checked plan.turns) (plan_seen plan)) }
+    ensures matches { IfOk result (λ series. map record_seen series.named.text.matches.items
+        ≡ matches_of (about_of checked plan.turns) (plan_seen plan)) }
     ensures standings { IfOk result (λ series. map standing_seen series.named.text.standings.items
         ≡ standings_of (plan_seen plan) (matches_of (about_of checked plan.turns) (plan_seen plan))) }
     ensures named { IfOk result (λ series. IsTold noted (about_of checked plan.turns) (plan_seen plan) series.named) }
     ensures book { IfOk result (λ series. (series.totals.capacity ≡ capacity) × (series.totals.lanes ≡ workers)) }
-    ensures looks { IfOk result (λ series. series.totals.looks ≡ length (looks_of (about_of checked plan.turns) (plan_seen plan))) }
+    ensures looks { IfOk result (λ series. series.totals.looks
+        ≡ length (looks_of (about_of checked plan.turns) (plan_seen plan))) }
     ensures hits { IfOk result (λ series. series.totals.hits ≤ series.totals.looks) }
     ensures missed { IfOk result (λ series. 0 < series.totals.looks → series.totals.hits < series.totals.looks) }
 {
@@ -87,12 +90,14 @@ fn played<N: BookNaming + Send + Sync, R: Threads + Wait + Sync, G: Gate>(
     requires name { (about.now.value ≡ N.about) × (capacity ≡ N.capacity) × (workers ≡ N.lanes) }
     requires names { (fresh.looks.name ≡ N.looks) × (fresh.hits.name ≡ N.hits) × (fresh.keeps.name ≡ N.keeps) }
     requires parts { (fresh.looks.parts ≡ N.lanes) × (fresh.hits.parts ≡ N.lanes) × (fresh.keeps.parts ≡ N.lanes) }
-    ensures matches { IfOk result (λ series. map record_seen series.named.text.matches.items ≡ matches_of about.now.value (plan_seen plan.now.value)) }
+    ensures matches { IfOk result (λ series. map record_seen series.named.text.matches.items
+        ≡ matches_of about.now.value (plan_seen plan.now.value)) }
     ensures standings { IfOk result (λ series. map standing_seen series.named.text.standings.items
         ≡ standings_of (plan_seen plan.now.value) (matches_of about.now.value (plan_seen plan.now.value))) }
     ensures named { IfOk result (λ series. IsTold noted about.now.value (plan_seen plan.now.value) series.named) }
     ensures book { IfOk result (λ series. (series.totals.capacity ≡ capacity) × (series.totals.lanes ≡ workers)) }
-    ensures looks { IfOk result (λ series. series.totals.looks ≡ length (looks_of about.now.value (plan_seen plan.now.value))) }
+    ensures looks { IfOk result (λ series. series.totals.looks
+        ≡ length (looks_of about.now.value (plan_seen plan.now.value))) }
     ensures hits { IfOk result (λ series. series.totals.hits ≤ series.totals.looks) }
     ensures missed { IfOk result (λ series. 0 < series.totals.looks → series.totals.hits < series.totals.looks) }
 {

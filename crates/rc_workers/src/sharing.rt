@@ -18,10 +18,10 @@ use std::alloc::Global;
 use std::sync::{Arc, Mutex, Wait};
 use std::thread::Threads;
 
-/// Plays every match of a plan, with one worker for each lane to the book, on code that is made of the sheet once. The records are
-/// those of the matches, in order, with what their choices bind, where that is to be noted. The lanes come back in the order of the
-/// memos, each by its number, and their counts rise together by what the matches ask: each decision that asks for totals is one look, and each look hits, or is followed by a keep. Memory may
-/// run out.
+/// Plays every match of a plan, with one worker for each lane to the book, on code that is made of the sheet once. The
+/// records are those of the matches, in order, with what their choices bind, where that is to be noted. The lanes come
+/// back in the order of the memos, each by its number, and their counts rise together by what the matches ask: each
+/// decision that asks for totals is one look, and each look hits, or is followed by a keep. Memory may run out.
 pub fn play_shared<'a, N: BookNaming + Send + Sync, R: Threads + Wait + Sync, G: Gate>(
     rt: &R,
     alloc: Global,
@@ -32,17 +32,21 @@ pub fn play_shared<'a, N: BookNaming + Send + Sync, R: Threads + Wait + Sync, G:
     gate: &G,
 ) -> Result<(Vec<Played>, Vec<Lane<N>>), Memory>
     requires about { N.about ≡ about.now.value }
-    requires matches { (1 ≤ length plan.now.value.matches.items) × (length plan.now.value.matches.items ≤ most_matches) }
+    requires matches { (1 ≤ length plan.now.value.matches.items)
+        × (length plan.now.value.matches.items ≤ most_matches) }
     requires seats { length plan.now.value.strategies.items ≡ about.now.value.sheet.players }
     requires memos { (1 ≤ length memos.items) × (length memos.items ≤ most_workers) }
-    ensures records { IfOk result (λ r. map played_seen r.0.items ≡ matches_of about.now.value (plan_seen plan.now.value)) }
+    ensures records { IfOk result (λ r. map played_seen r.0.items
+        ≡ matches_of about.now.value (plan_seen plan.now.value)) }
     ensures count { IfOk result (λ r. length r.0.items ≡ length plan.now.value.matches.items) }
-    ensures each { IfOk result (λ r. All (λ p. length p.record.scores.items ≡ about.now.value.sheet.players) r.0.items) }
+    ensures each { IfOk result (λ r. All
+        (λ p. length p.record.scores.items ≡ about.now.value.sheet.players) r.0.items) }
     ensures noted { IfOk result (λ r. All (IsNotedAs noted about.now.value (plan_seen plan.now.value)) r.0.items) }
     ensures rise { IfOk result (λ r. RiseTogether (length (looks_of about.now.value (plan_seen plan.now.value)))
         (map shared_counts memos.entry.items) (map shared_counts r.1.items)) }
     ensures lanes { IfOk result (λ r. length r.1.items ≡ length memos.entry.items) }
-    ensures order { IfOk result (λ r. map (λ lane. lane.number) r.1.items ≡ map (λ memo. memo.number) memos.entry.items) }
+    ensures order { IfOk result (λ r. map (λ lane. lane.number) r.1.items
+        ≡ map (λ memo. memo.number) memos.entry.items) }
 {
     let code = match shared_code(alloc, about) {
         Ok(code) => code,

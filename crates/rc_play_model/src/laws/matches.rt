@@ -13,8 +13,8 @@ pub fn picks_are_choices()
     ensures { MatchPicksAreTaken }
 {}
 
-/// Decisions of one seat, strategy and seed at alike states have the same item, in whatever matches of one sheet and turn limit they
-/// stand.
+/// Decisions of one seat, strategy and seed at alike states have the same item, in whatever matches of one sheet and
+/// turn limit they stand.
 pub fn alike_decisions_have_one_item()
     ensures { AlikeSamePicks }
 {}
@@ -24,7 +24,8 @@ pub fn decisions_stand_at_their_sites()
     ensures { DecisionsAtSite }
 {}
 
-/// Each pick is an item of its menu, the items of a match lead to its end, and those before a pick lead to its decision.
+/// Each pick is an item of its menu, the items of a match lead to its end, and those before a pick lead to its
+/// decision.
 pub fn picks_are_items()
     ensures item { EveryPickFits }
     ensures end { MatchLeadsToEnd }

@@ -12,7 +12,8 @@ pub fn redrawn_tables_keep_the_view()
     ensures menu { RedrawsKeepMenus }
 {}
 
-/// Each seen card place takes the smallest id of its face that is left, and the hidden places are as many as the ids that are left.
+/// Each seen card place takes the smallest id of its face that is left, and the hidden places are as many as the ids
+/// that are left.
 pub fn seen_places_take_the_smallest()
     ensures smallest { RedrawsTakeSmallest }
     ensures few { SeesFew }
