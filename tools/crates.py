@@ -31,8 +31,12 @@ NAMED = re.compile(r"\bRattle\.(\w+)|(?<![:\w])(\w+)::")
 
 def listed(root: Path) -> dict[str, list[str]]:
     """The crates in the order of crates.txt, with the libraries that are listed for each."""
-    lines = (root / "crates.txt").read_text("utf-8").splitlines()
-    pairs = (line.split(":") for line in lines if line and not line.startswith("#"))
+    return listed_in((root / "crates.txt").read_text("utf-8"))
+
+
+def listed_in(text: str) -> dict[str, list[str]]:
+    """The crates that a text of crates.txt lists."""
+    pairs = (line.split(":") for line in text.splitlines() if line and not line.startswith("#"))
     return {words.split()[0]: libraries.split() for words, libraries in pairs}
 
 
@@ -41,11 +45,6 @@ def sources(folder: Path) -> Iterator[Path]:
     for part in FOLDERS:
         for suffix in COMMENT:
             yield from sorted(folder.glob(f"{part}/**/*{suffix}"))
-
-
-# What a crate lists and never names, and what goes with the crate's next change: a new line of crates.txt has the crate, and all above it,
-# proved anew.
-WAITING = {("rc_search", "rc_stand")}
 
 
 def named_in(file: Path) -> set[str]:
@@ -77,8 +76,6 @@ def listing_faults(root: Path) -> Iterator[str]:
         for name in sorted(named[crate] - {*crates[crate]}):
             yield f"{crate} names {name}, which isn't listed for it"
         for name in sorted({*crates[crate]} - named[crate]):
-            if (crate, name) in WAITING:
-                continue
             yield f"{crate} never names {name}, which is listed for it: tools/crates.py drop takes it out"
 
 

@@ -17,7 +17,7 @@ ROOT = Path(__file__).resolve().parent.parent
 PAGES = sorted([*ROOT.glob("*.md"), *ROOT.glob("*/*.md")])
 
 # The pages that name types of the code by a single word, and those on which every word names a part of it, but these.
-ON_CODE = {"ARCHITECTURE.md", "DECISIONS.md", "PLANTED.md", "PROVED.md"}
+ON_CODE = {"ARCHITECTURE.md", "CONTRIBUTING.md", "DECISIONS.md", "GLOSSARY.md", "PLANTED.md", "PROVED.md"}
 ON_CODE_ALONE = {"PLANTED.md", "PROVED.md"}
 OTHERS = {"_by", "crates", "measure", "migrate", "planted", "rival", "tools", "watch"}
 

@@ -190,7 +190,7 @@ class Same(Released):
     def test_two_of_one_commit_are_the_same(self) -> None:
         """Also of another checkout, with other times and modes, and made under another mask."""
         again = self.folder / "again"
-        for part in ("cardhouse", "VERSION", "README.md", "CHANGELOG.md", "docs", "editors", "examples", "packaging", "tools", "cases"):
+        for part in ("cardhouse", "VERSION", "README.md", "CONTRIBUTING.md", "CHANGELOG.md", "docs", "editors", "examples", "packaging", "tools", "cases"):
             copy = shutil.copytree if (ROOT / part).is_dir() else shutil.copyfile
             again.mkdir(exist_ok=True)
             copy(ROOT / part, again / part)

@@ -157,7 +157,7 @@ def is_running(number: int) -> bool:
     """Whether a process runs: it is there, and doesn't only wait for its parent to take its status."""
     try:
         told = Path(f"/proc/{number}/stat").read_text()
-    except FileNotFoundError:
+    except (FileNotFoundError, ProcessLookupError):
         return False
     return told.rpartition(")")[2].split()[0] != "Z"
 

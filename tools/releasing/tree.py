@@ -21,11 +21,11 @@ COMPLETIONS = {
 VIM = "usr/share/vim/vimfiles"
 
 # The tools that need a checkout, and what the others read that isn't imported.
-OF_CHECKOUT = {"build", "picture", "release", "try"}
+OF_CHECKOUT = {"build", "changed", "picture", "release", "try"}
 READ = ("web", "usage.txt")
 
 # What a reader of a release gets of the checkout, and what in it is for the gate.
-PAGES = ("README.md", "CHANGELOG.md", "docs", "editors", "examples", "cases/README.md")
+PAGES = ("README.md", "CHANGELOG.md", "CONTRIBUTING.md", "docs", "editors", "examples", "cases/README.md")
 OF_GATE = {"examples/check", "docs/times.txt"}
 
 PLAIN, RUN = 0o644, 0o755
