@@ -1,5 +1,5 @@
 use Rattle.rc_trick.proofs.Accepted.{some_game, one_game, game_players, no_form_fault, one_form, no_fault, no_sight_fault, read_game}
-use Rattle.rc_trick.proofs.the_trick_game_is_accepted.Goals as goal
+use Rattle.rc_trick.proofs.game.the_trick_game_is_accepted.Goals as goal
 
 pub returns-clause-some : goal.returns-clause-some
 returns-clause-some c = some_game
