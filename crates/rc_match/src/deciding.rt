@@ -7,9 +7,9 @@ ghost use Rattle.rc_redraw.specs.Need.{IsNeed};
 ghost use Rattle.rc_rules.specs.Bounds.{match_bounds};
 ghost use Rattle.rc_rules.specs.Control.{stop_seen};
 ghost use Rattle.rc_rules.specs.Machine.{StandsAtDecision, StandsWhereItStops, menu_here};
-ghost use Rattle.rc_rules.specs.Plan.{plan_seen};
 ghost use Rattle.rc_rules.specs.Record.{record_seen};
 ghost use Rattle.rc_match.specs.Chosen.{Chosen, IsChoice, IsOffhand, asked_at};
+ghost use Rattle.rc_match.specs.Job.{of_job, IsInPlan, HasStrategies};
 ghost use Rattle.rc_match.specs.Named.{noted_here};
 ghost use Rattle.rc_match.specs.Lane.{asks, need_at, notes_at, phase_at};
 
@@ -37,31 +37,25 @@ pub(crate) fn picked_at<M: Machine, C: Chooser, L: Ledger>(
     chooser: &mut C,
     steps: &mut Steps<L>,
 ) -> Result<Option<u16>, Memory>
-    requires number { job.now.number < length job.now.plan.value.matches.items }
-    requires seats { length job.now.plan.value.strategies.items ≡ job.now.about.value.sheet.players }
+    requires number { IsInPlan job.now }
+    requires seats { HasStrategies job.now }
     requires about { M.about machine.now ≡ job.now.about.value }
     requires fresh { M.spent machine.now ≡ false }
     requires stands { StandsWhereItStops job.now.about.value (stop_seen stop) (M.config machine.now) }
     requires plays { mover job.now.about.value.sheet (M.config machine.now).control.frames
         < job.now.about.value.sheet.players }
-    requires asks { IsChoice (C.serves chooser.old)
-        (phase_at job.now.about.value (plan_seen job.now.plan.value) job.now.number (stop_seen stop)
-        (M.config machine.now)) }
-    ensures is { IfOk result (λ pick. Chosen
-        (phase_at job.now.about.value (plan_seen job.now.plan.value) job.now.number (stop_seen stop)
-        (M.config machine.now)) pick) }
+    requires asks { IsChoice (C.serves chooser.old) (of_job job.now phase_at (stop_seen stop) (M.config machine.now)) }
+    ensures is { IfOk result (λ pick. Chosen (of_job job.now phase_at (stop_seen stop) (M.config machine.now)) pick) }
     ensures notes { OnOk result (record_seen notes.new
         ≡ notes_at job.now.about.value (record_seen notes.old) (stop_seen stop)
         (M.config machine.now) dealer.now.count) }
     ensures bounds { IfOk result (λ pick. match_bounds bounds.new
         ≡ match_bounds bounds.old ++ noted_here noted job.now.about.value (M.config machine.now) pick) }
     ensures asked { OnOk result (AsksAll
-        (asked_at (phase_at job.now.about.value (plan_seen job.now.plan.value) job.now.number (stop_seen stop)
-        (M.config machine.now)))
+        (asked_at (of_job job.now phase_at (stop_seen stop) (M.config machine.now)))
         (C.counts chooser.old) (C.counts chooser.new) steps.old steps.new) }
     ensures lacking { OnErr result (AsksSome
-        (asked_at (phase_at job.now.about.value (plan_seen job.now.plan.value) job.now.number (stop_seen stop)
-        (M.config machine.now)))
+        (asked_at (of_job job.now phase_at (stop_seen stop) (M.config machine.now)))
         (C.counts chooser.old) (C.counts chooser.new) steps.old steps.new) }
     ensures same { (about : PureAbout) → C.serves chooser.old about → C.serves chooser.new about }
     ensures named { C.name chooser.new ≡ C.name chooser.old }
@@ -113,25 +107,18 @@ fn item_of<M: Machine, C: Chooser, L: Ledger>(
     chooser: &mut C,
     steps: &mut Steps<L>,
 ) -> Result<u16, Memory>
-    requires number { job.now.number < length job.now.plan.value.matches.items }
-    requires seats { length job.now.plan.value.strategies.items ≡ job.now.about.value.sheet.players }
+    requires number { IsInPlan job.now }
+    requires seats { HasStrategies job.now }
     requires about { M.about machine.now ≡ job.now.about.value }
     requires fresh { M.spent machine.now ≡ false }
     requires decides { StandsAtDecision job.now.about.value (M.config machine.now) }
     requires plays { seat < job.now.about.value.sheet.players }
     requires served { C.serves chooser.old job.now.about.value }
-    requires need { IsNeed (need_at job.now.about.value (plan_seen job.now.plan.value) job.now.number seat
-        (M.config machine.now)) }
-    ensures is { IfOk result (λ item. Chosen (asks
-        (need_at job.now.about.value (plan_seen job.now.plan.value) job.now.number seat (M.config machine.now)))
-        (Some item)) }
-    ensures asked { OnOk result (AsksAll
-        (asked_for (need_at job.now.about.value (plan_seen job.now.plan.value) job.now.number seat
-        (M.config machine.now)))
+    requires need { IsNeed (of_job job.now need_at seat (M.config machine.now)) }
+    ensures is { IfOk result (λ item. Chosen (asks (of_job job.now need_at seat (M.config machine.now))) (Some item)) }
+    ensures asked { OnOk result (AsksAll (asked_for (of_job job.now need_at seat (M.config machine.now)))
         (C.counts chooser.old) (C.counts chooser.new) steps.old steps.new) }
-    ensures lacking { OnErr result (AsksSome
-        (asked_for (need_at job.now.about.value (plan_seen job.now.plan.value) job.now.number seat
-        (M.config machine.now)))
+    ensures lacking { OnErr result (AsksSome (asked_for (of_job job.now need_at seat (M.config machine.now)))
         (C.counts chooser.old) (C.counts chooser.new) steps.old steps.new) }
     ensures same { (about : PureAbout) → C.serves chooser.old about → C.serves chooser.new about }
     ensures named { C.name chooser.new ≡ C.name chooser.old }
@@ -147,16 +134,14 @@ fn item_of<M: Machine, C: Chooser, L: Ledger>(
 
 // The item where the strategy asks nothing of playouts, and nothing where it does.
 fn offhand_at<M: Machine>(job: &Job, seat: u8, machine: &M) -> Option<u16>
-    requires number { job.now.number < length job.now.plan.value.matches.items }
-    requires seats { length job.now.plan.value.strategies.items ≡ job.now.about.value.sheet.players }
+    requires number { IsInPlan job.now }
+    requires seats { HasStrategies job.now }
     requires about { M.about machine.now ≡ job.now.about.value }
     requires fresh { M.spent machine.now ≡ false }
     requires decides { StandsAtDecision job.now.about.value (M.config machine.now) }
     requires plays { seat < job.now.about.value.sheet.players }
-    requires need { IsNeed (need_at job.now.about.value (plan_seen job.now.plan.value) job.now.number seat
-        (M.config machine.now)) }
-    ensures { IfSome result (IsOffhand
-        (need_at job.now.about.value (plan_seen job.now.plan.value) job.now.number seat (M.config machine.now))) }
+    requires need { IsNeed (of_job job.now need_at seat (M.config machine.now)) }
+    ensures { IfSome result (IsOffhand (of_job job.now need_at seat (M.config machine.now))) }
 {
     // what an about keeps
     let _sheet = job.about.sheet();

@@ -4,14 +4,14 @@ ghost use Rattle.rc_play_model.specs.Owners.{mover};
 ghost use Rattle.rc_play_model.specs.Step.{goes};
 ghost use Rattle.rc_play_model.specs.Stop.{stop_of};
 ghost use Rattle.rc_play_model.specs.Decision.{choose};
-ghost use Rattle.rc_play_model.specs.Plan.{deal_at};
 ghost use Rattle.rc_play_model.specs.Keyed.{dealing_of};
 ghost use Rattle.rc_rules.specs.Control.{stop_seen};
-ghost use Rattle.rc_rules.specs.Plan.{plan_seen};
 ghost use Rattle.rc_rules.specs.Record.{pick_seen, ending_seen, record_seen};
 ghost use Rattle.rc_rules.specs.Machine.{StandsAtDecision, StandsWhereItStops, menu_here};
 ghost use Rattle.rc_redraw.specs.Need.{need_seen};
-ghost use Rattle.rc_match.specs.Lane.{ready, over, lane_of, phase_seen, pick_here, noted, next_stop, need_at, stopped_at, lane_at, completed, notes_at, phase_at, stepped};
+ghost use Rattle.rc_match.specs.Job.{of_job, DealsFor, IsInPlan, HasStrategies};
+ghost use Rattle.rc_match.specs.Lane.{ready, over, lane_of, phase_seen, pick_here, noted, next_stop, need_at};
+ghost use Rattle.rc_match.specs.Lane.{stopped_at, lane_at, completed, notes_at, phase_at, stepped};
 ghost use Rattle.rc_match.specs.Way.{IsOnWay, HasMorePicks};
 
 use crate::ending::complete;
@@ -34,23 +34,19 @@ pub(crate) fn go_on<M: Machine>(
     dealer: &mut MatchDealer,
     notes: &mut MatchRecord,
 ) -> Result<Phase, Memory>
-    requires number { job.now.number < length job.now.plan.value.matches.items }
-    requires seats { length job.now.plan.value.strategies.items ≡ job.now.about.value.sheet.players }
+    requires number { IsInPlan job.now }
+    requires seats { HasStrategies job.now }
     requires about { M.about machine.old ≡ job.now.about.value }
-    requires deal { dealing_of dealer.old.deal
-        ≡ dealing_of (deal_at (plan_seen job.now.plan.value) job.now.number).deal }
+    requires deal { DealsFor job.now dealer.old }
     requires fresh { M.spent machine.old ≡ false }
-    requires way { IsOnWay job.now.about.value (plan_seen job.now.plan.value) job.now.number
-        (lane_of (M.config machine.old) dealer.old notes.old (ready pick)) }
+    requires way { of_job job.now IsOnWay (lane_of (M.config machine.old) dealer.old notes.old (ready pick)) }
     ensures is { IfOk result (λ phase.
-        stepped job.now.about.value (plan_seen job.now.plan.value) job.now.number
-        (lane_of (M.config machine.old) dealer.old notes.old (ready pick))
+        of_job job.now stepped (lane_of (M.config machine.old) dealer.old notes.old (ready pick))
         ≡ Some (lane_of (M.config machine.new) dealer.new notes.new (phase_seen phase))) }
-    ensures way { IfOk result (λ phase. IsOnWay job.now.about.value (plan_seen job.now.plan.value) job.now.number
-        (lane_of (M.config machine.new) dealer.new notes.new (phase_seen phase))) }
+    ensures way { IfOk result
+        (λ phase. of_job job.now IsOnWay (lane_of (M.config machine.new) dealer.new notes.new (phase_seen phase))) }
     ensures about { M.about machine.new ≡ job.now.about.value }
-    ensures deal { dealing_of dealer.new.deal
-        ≡ dealing_of (deal_at (plan_seen job.now.plan.value) job.now.number).deal }
+    ensures deal { DealsFor job.now dealer.new }
     ensures fresh { OnOk result (M.spent machine.new ≡ false) }
     ensures kept { OnErr result (HasMorePicks (record_seen notes.old) (record_seen notes.new)) }
 {
@@ -67,26 +63,21 @@ pub(crate) fn go_to_stop<M: Machine>(
     notes: &mut MatchRecord,
 ) -> Result<Stop, Memory>
     requires about { M.about machine.old ≡ job.now.about.value }
-    requires deal { dealing_of dealer.old.deal
-        ≡ dealing_of (deal_at (plan_seen job.now.plan.value) job.now.number).deal }
+    requires deal { DealsFor job.now dealer.old }
     requires fresh { M.spent machine.old ≡ false }
-    requires way { IsOnWay job.now.about.value (plan_seen job.now.plan.value) job.now.number
-        (lane_of (M.config machine.old) dealer.old notes.old (ready pick)) }
+    requires way { of_job job.now IsOnWay (lane_of (M.config machine.old) dealer.old notes.old (ready pick)) }
     ensures is { IfOk result (λ stop.
-        stepped job.now.about.value (plan_seen job.now.plan.value) job.now.number
-        (lane_of (M.config machine.old) dealer.old notes.old (ready pick))
-        ≡ Some (lane_at job.now.about.value (plan_seen job.now.plan.value) job.now.number (record_seen notes.new)
+        of_job job.now stepped (lane_of (M.config machine.old) dealer.old notes.old (ready pick))
+        ≡ Some (of_job job.now lane_at (record_seen notes.new)
         (stopped_at (stop_seen stop) (M.config machine.new) dealer.new))) }
-    ensures way { IfOk result (λ stop. IsOnWay job.now.about.value (plan_seen job.now.plan.value) job.now.number
-        (lane_at job.now.about.value (plan_seen job.now.plan.value) job.now.number (record_seen notes.new)
+    ensures way { IfOk result (λ stop. of_job job.now IsOnWay (of_job job.now lane_at (record_seen notes.new)
         (stopped_at (stop_seen stop) (M.config machine.new) dealer.new))) }
     ensures stands { IfOk result (λ stop. StandsWhereItStops job.now.about.value (stop_seen stop)
         (M.config machine.new)) }
     ensures plays { OnOk result (mover job.now.about.value.sheet (M.config machine.new).control.frames
         < job.now.about.value.sheet.players) }
     ensures about { M.about machine.new ≡ job.now.about.value }
-    ensures deal { dealing_of dealer.new.deal
-        ≡ dealing_of (deal_at (plan_seen job.now.plan.value) job.now.number).deal }
+    ensures deal { DealsFor job.now dealer.new }
     ensures fresh { OnOk result (M.spent machine.new ≡ false) }
     ensures picks { HasMorePicks (record_seen notes.old) (record_seen notes.new) }
 {
@@ -179,16 +170,15 @@ fn arrive<M: Machine>(
     dealer: &MatchDealer,
     notes: &mut MatchRecord,
 ) -> Result<Phase, Memory>
-    requires number { job.now.number < length job.now.plan.value.matches.items }
-    requires seats { length job.now.plan.value.strategies.items ≡ job.now.about.value.sheet.players }
+    requires number { IsInPlan job.now }
+    requires seats { HasStrategies job.now }
     requires about { M.about machine.now ≡ job.now.about.value }
     requires fresh { M.spent machine.now ≡ false }
     requires stands { StandsWhereItStops job.now.about.value (stop_seen stop) (M.config machine.now) }
     requires plays { mover job.now.about.value.sheet (M.config machine.now).control.frames
         < job.now.about.value.sheet.players }
-    ensures is { IfOk result (λ phase. phase_seen phase
-        ≡ phase_at job.now.about.value (plan_seen job.now.plan.value) job.now.number (stop_seen stop)
-        (M.config machine.now)) }
+    ensures is { IfOk result
+        (λ phase. phase_seen phase ≡ of_job job.now phase_at (stop_seen stop) (M.config machine.now)) }
     ensures notes { OnOk result (record_seen notes.new
         ≡ notes_at job.now.about.value (record_seen notes.old) (stop_seen stop)
         (M.config machine.now) dealer.now.count) }
@@ -208,14 +198,13 @@ pub(crate) fn need_of<M: Machine>(
     seat: u8,
     machine: &M,
 ) -> Result<Need, Memory>
-    requires number { job.now.number < length job.now.plan.value.matches.items }
-    requires seats { length job.now.plan.value.strategies.items ≡ job.now.about.value.sheet.players }
+    requires number { IsInPlan job.now }
+    requires seats { HasStrategies job.now }
     requires about { M.about machine.now ≡ job.now.about.value }
     requires fresh { M.spent machine.now ≡ false }
     requires decides { StandsAtDecision job.now.about.value (M.config machine.now) }
     requires plays { seat < job.now.about.value.sheet.players }
-    ensures { IfOk result (λ need. need_seen need
-        ≡ need_at job.now.about.value (plan_seen job.now.plan.value) job.now.number seat (M.config machine.now)) }
+    ensures { IfOk result (λ need. need_seen need ≡ of_job job.now need_at seat (M.config machine.now)) }
 {
     // what an about keeps
     let _sheet = job.about.sheet();

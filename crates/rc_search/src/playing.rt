@@ -15,6 +15,7 @@ ghost use Rattle.rc_search_model.specs.Rivals.{rival_choice, rival_match};
 ghost use Rattle.rc_search_model.specs.Search.{searched as searched_for, totals};
 ghost use Rattle.rc_view.specs.Seen.{view_seen};
 ghost use Rattle.rc_search.specs.Rival.{rival_seen, CanBeSearched, IsRival};
+ghost use Rattle.rc_match.specs.Job.{of_job, IsInPlan, HasStrategies};
 ghost use Rattle.rc_match.specs.Lane.{phase_seen, ready};
 ghost use Rattle.rc_search.specs.Chosen.{Chosen, IsAsked, IsOfMatch};
 
@@ -47,8 +48,8 @@ pub fn play_rival<M: Machine + Drop, C: Chooser, L: Ledger>(
     requires about { M.about machine ≡ job.now.about.value }
     requires start { M.config machine ≡ start job.now.about.value }
     requires fresh { M.spent machine ≡ false }
-    requires number { job.now.number < length job.now.plan.value.matches.items }
-    requires seats { length job.now.plan.value.strategies.items ≡ job.now.about.value.sheet.players }
+    requires number { IsInPlan job.now }
+    requires seats { HasStrategies job.now }
     requires served { C.serves chooser.old job.now.about.value }
     requires code { StandsFor job.now.about.value.sheet (code_seen code.now.value) }
     requires rival { IsRival rival.now }
@@ -87,12 +88,12 @@ fn next_item<C: Chooser, L: Ledger>(
     chooser: &mut C,
     steps: &mut Steps<L>,
 ) -> Result<Option<u16>, Memory>
-    requires seats { length job.now.plan.value.strategies.items ≡ job.now.about.value.sheet.players }
+    requires seats { HasStrategies job.now }
     requires some { 1 ≤ job.now.about.value.sheet.players }
     requires served { C.serves chooser.old job.now.about.value }
     requires code { StandsFor job.now.about.value.sheet (code_seen code.now.value) }
     requires rival { IsRival rival.now }
-    requires asked { IsAsked job.now.about.value (plan_seen job.now.plan.value) job.now.number (phase_seen phase.now) }
+    requires asked { of_job job.now IsAsked (phase_seen phase.now) }
     ensures is { IfOk result (Chosen job.now.about.value (rival_seen rival.now)
         (plan_seen job.now.plan.value) job.now.number
         (phase_seen phase.now)) }
@@ -117,13 +118,13 @@ fn item_of<C: Chooser, L: Ledger>(
     chooser: &mut C,
     steps: &mut Steps<L>,
 ) -> Result<u16, Memory>
-    requires seats { length job.now.plan.value.strategies.items ≡ job.now.about.value.sheet.players }
+    requires seats { HasStrategies job.now }
     requires some { 1 ≤ job.now.about.value.sheet.players }
     requires served { C.serves chooser.old job.now.about.value }
     requires code { StandsFor job.now.about.value.sheet (code_seen code.now.value) }
     requires rival { IsRival rival.now }
     requires need { IsNeed (need_seen need.now) }
-    requires of { IsOfMatch job.now.about.value (plan_seen job.now.plan.value) job.now.number (need_seen need.now) }
+    requires of { of_job job.now IsOfMatch (need_seen need.now) }
     ensures is { IfOk result (λ item. item
         ≡ rival_choice job.now.about.value (rival_seen rival.now) (plan_seen job.now.plan.value) job.now.number
         need.now.view.seat (view_seen need.now.view)) }
