@@ -16,6 +16,14 @@ pub record Port : Type 0 where
 abbrev pub port : Option (List ℕ) → ℕ → Port
 port told faults = record { told = told; faults = faults }
 
+-- where a source or a sink stands, by what its trait has it tell and count
+abbrev pub port_of : {A : Type 0} → (A → Option (List ℕ)) → (A → ℕ) → A → Port
+port_of told faults at = port (told at) (faults at)
+
+-- what is said of a port before a call and behind it, said of a source or a sink
+abbrev pub between {ℓ} : {A : Type 0} {R : Type ℓ} → (A → Option (List ℕ)) → (A → ℕ) → A → A → (Port → Port → R) → R
+between told faults before after said = said (port_of told faults before) (port_of told faults after)
+
 -- a read or a write failed: the count of faults rose, or stands at its largest value, from which none rises
 abbrev pub HasFailed : Port → Port → Type 0
 HasFailed before after = Rose before.faults after.faults
@@ -67,10 +75,11 @@ pub record Ports : Type 0 where
 abbrev pub ports : Port → Port → Port → Ports
 ports source out notes = record { source = source; out = out; notes = notes }
 
--- what is left of the source, what out and notes have received, and behind each its count of faults
-abbrev pub moment : Option (List ℕ) → ℕ → Option (List ℕ) → ℕ → Option (List ℕ) → ℕ → Ports
-moment left source_faults out out_faults notes note_faults =
-    ports (port left source_faults) (port out out_faults) (port notes note_faults)
+-- where a source, out and notes stand, by what is left of the one, what the others have received, and their counts
+abbrev pub moment : {S O N : Type 0} → (S → Option (List ℕ)) → (S → ℕ) → (O → Option (List ℕ)) → (O → ℕ)
+    → (N → Option (List ℕ)) → (N → ℕ) → S → O → N → Ports
+moment left source_faults received out_faults noted note_faults source out notes =
+    ports (port_of left source_faults source) (port_of received out_faults out) (port_of noted note_faults notes)
 
 -- no count of faults fell
 pub record NoCountFell (before after : Ports) : Type 0 where

@@ -13,7 +13,7 @@ use Rattle.rc_sheet_model.specs.Sheet.{Sheet}
 use Rattle.rc_text.specs.House.{text_of, named_seen}
 use Rattle.rc_text_model.specs.HouseText.{naming, text_in}
 use Rattle.rc_trick.specs.Trick.{IsTrickGame}
-use Rattle.rc_command.specs.Command.{IsCommand, workers_of}
+use Rattle.rc_command.specs.Command.{IsCommand, options_of, workers_of}
 use Rattle.rc_command.specs.declared.command.Command.{Command}
 use Rattle.rc_command.specs.declared.command.Command.TheVariants as command
 use Rattle.rc_command.specs.declared.options.Format.{Format}
@@ -24,6 +24,7 @@ use Rattle.rc_answers.specs.declared.task.Task.{Task}
 use Rattle.rc_answers.specs.declared.task.Task.TheVariants.{Play, Check, Sheet as PrintsSheet, Migrate, Watch}
 use Rattle.rc_answers.specs.declared.task.Task.TheVariants.{Measure, Rival}
 use Rattle.rc_answers.specs.declared.answer.Answer.{Answer as Stored}
+use Rattle.rc_answers.specs.declared.answer.Game.{Game}
 use Rattle.rc_answers.specs.declared.answer.Answer.TheVariants as stored
 use Rattle.rc_answers.specs.declared.answer.Prepared.{Prepared}
 use Rattle.rc_answers.specs.declared.answer.Prepared.TheVariants.{Answered, Playing}
@@ -38,6 +39,10 @@ use Rattle.rc_answers.specs.Bench.{IsBenchAnswer}
 use Rattle.rc_house.specs.Port.{Port, HasFailed, IsSteady, Delivers, Took}
 use Rattle.rc_answers.specs.Status.{line_of, refusal_status}
 use Rattle.rc_house.specs.Outcome.{Answers, CountedFew, GaveFew, GaveTooMuch}
+
+-- it is the command of some words
+abbrev pub HasWords : Command → Type 0
+HasWords command = (words : List (List ℕ)) × IsCommand words command
 
 -- a text's note is one of the command's
 abbrev pub HasNoteOf : Task → Stored → Type 0
@@ -85,6 +90,15 @@ pub record IsSeriesOf (options : Options) (about : About) (plan : Plan) (steps s
   pub looks : series.totals.looks ≡ length (looks_of about plan)
   pub hits : AreHits options (looks_of about plan) series.totals.hits
   pub counted : steps' ≡ steps + counted_playouts options (looks_of about plan)
+
+-- The matches of a game were played for a command.
+abbrev pub IsSeriesFor : Command → Game → ℕ → ℕ → Series → Type 0
+IsSeriesFor called game = IsSeriesOf (options_of called) (about_of game.checked game.plan.turns) (plan_seen game.plan)
+
+-- how many playouts are counted for them
+abbrev pub counted_for : Command → Game → ℕ
+counted_for called game =
+    counted_playouts (options_of called) (looks_of (about_of game.checked game.plan.turns) (plan_seen game.plan))
 
 -- The matches of some sheet and plan were played so.
 abbrev pub ArePlayedBy : Options → Series → Type 0

@@ -1,6 +1,6 @@
 //! What goes to the ports at the end of a command.
 ghost use Rattle.std.specs.Prelude.{◌≡◌, ◌≤◌};
-ghost use Rattle.rc_house.specs.Port.{Delivers, Took, port};
+ghost use Rattle.rc_house.specs.Port.{Delivers, Took, between};
 ghost use Rattle.rc_house.specs.Running.{Concludes};
 ghost use Rattle.rc_answers.specs.Status.{line_of};
 
@@ -10,8 +10,7 @@ use rc_outside::{Sink, write_all};
 /// Notes a refusal, whether that succeeds or not.
 pub fn refuse<N: Sink>(notes: &mut N, status: Status) -> Status
     ensures status { result ≡ status }
-    ensures noted { Took (port (N.written notes.old) (N.faults notes.old))
-        (port (N.written notes.new) (N.faults notes.new)) (line_of status) }
+    ensures noted { between N.written N.faults notes.old notes.new Took (line_of status) }
     ensures counted { N.faults notes.old ≤ N.faults notes.new }
 {
     let _ = write_all(notes, status.line().as_str().as_bytes());
@@ -20,9 +19,8 @@ pub fn refuse<N: Sink>(notes: &mut N, status: Status) -> Status
 
 /// Writes a text, and then its note.
 fn deliver<O: Sink, N: Sink>(out: &mut O, notes: &mut N, text: &[u8], note: &[u8]) -> Status
-    ensures ends { Delivers text.now note.now
-        (port (O.written out.old) (O.faults out.old)) (port (O.written out.new) (O.faults out.new))
-        (port (N.written notes.old) (N.faults notes.old)) (port (N.written notes.new) (N.faults notes.new)) result }
+    ensures ends { between N.written N.faults notes.old notes.new
+        (between O.written O.faults out.old out.new (Delivers text.now note.now)) result }
     ensures out_counted { O.faults out.old ≤ O.faults out.new }
     ensures notes_counted { N.faults notes.old ≤ N.faults notes.new }
 {
@@ -41,9 +39,8 @@ pub(crate) fn conclude<O: Sink, N: Sink>(
     notes: &mut N,
     answered: Result<Answer, Status>,
 ) -> Status
-    ensures concludes { Concludes answered
-        (port (O.written out.old) (O.faults out.old)) (port (O.written out.new) (O.faults out.new))
-        (port (N.written notes.old) (N.faults notes.old)) (port (N.written notes.new) (N.faults notes.new)) result }
+    ensures concludes { between N.written N.faults notes.old notes.new
+        (between O.written O.faults out.old out.new (Concludes answered)) result }
     ensures out_counted { O.faults out.old ≤ O.faults out.new }
     ensures notes_counted { N.faults notes.old ≤ N.faults notes.new }
 {

@@ -1,6 +1,5 @@
 //! The calls that a program makes: they run a command from its words to its end.
-ghost use Rattle.std.specs.Prelude.{◌≡◌, ◌<◌, ◌≤◌, ◌+◌, ℕ, List, [], map, true, string_bytes, IfOk, IfErr};
-ghost use Rattle.rc_play_model.specs.About.{about_of};
+ghost use Rattle.std.specs.Prelude.{◌≡◌, ◌<◌, ◌≤◌, ◌+◌, ℕ, [], map, true, string_bytes, IfOk, IfErr};
 ghost use Rattle.rc_play_model.specs.MatchLaws.{AlikeSamePicks};
 ghost use Rattle.rc_rules.specs.Plan.{plan_seen};
 ghost use Rattle.rc_text.specs.House.{Fits};
@@ -16,11 +15,11 @@ ghost use Rattle.rc_answers.specs.Laws.{TextsAreTheSame};
 ghost use Rattle.rc_answers.specs.PlayedLaws.{PlayedIsChecked, PlayedIsMeasured, PlayedIsMigrated};
 ghost use Rattle.rc_answers.specs.Plays.{WrittenIsPlayed};
 ghost use Rattle.rc_answers.specs.WatchedLaws.{AbsentExactly, WatchedIsRead};
-ghost use Rattle.rc_answers.specs.Players.{CanPlay, counted_playouts};
-ghost use Rattle.rc_records.specs.Series.{looks_of};
-ghost use Rattle.rc_house.specs.Port.{moment, port};
-ghost use Rattle.rc_house.specs.Running.{AnswersCommand, ArePlayedBy, IsSeriesOf, NamesNone, PreparesCommand};
-ghost use Rattle.rc_house.specs.Running.{PreparesNone, ReadsNone, ReadsPrepared, TellsOf, series_text, told_of};
+ghost use Rattle.rc_answers.specs.Players.{CanPlay};
+ghost use Rattle.rc_house.specs.Port.{between, moment};
+ghost use Rattle.rc_house.specs.Running.{AnswersCommand, ArePlayedBy, HasWords, IsSeriesFor, NamesNone};
+ghost use Rattle.rc_house.specs.Running.{PreparesCommand, PreparesNone, ReadsNone, ReadsPrepared, TellsOf};
+ghost use Rattle.rc_house.specs.Running.{counted_for, series_text, told_of};
 
 use crate::handing::{conclude, refuse};
 use rc_answers::{
@@ -48,10 +47,8 @@ use std::thread::Threads;
 /// What a command makes of its source before anybody plays, or the status that it ends with.
 fn read_prepared<S: Source>(alloc: Global, task: Task, source: &mut S) -> Result<Prepared, Status>
     requires searches { CanSearch task }
-    ensures prepared { IfOk result (ReadsPrepared task (port (S.left source.old) (S.faults source.old))
-        (port (S.left source.new) (S.faults source.new))) }
-    ensures none { IfErr result (ReadsNone task (port (S.left source.old) (S.faults source.old))
-        (port (S.left source.new) (S.faults source.new))) }
+    ensures prepared { IfOk result (between S.left S.faults source.old source.new (ReadsPrepared task)) }
+    ensures none { IfErr result (between S.left S.faults source.old source.new (ReadsNone task)) }
     ensures counted { S.faults source.old ≤ S.faults source.new }
 {
     let bytes = read_all(alloc, source, task.limit())?;
@@ -65,11 +62,9 @@ fn prepare_command<S: Source>(
     command: Command,
     source: &mut S,
 ) -> Result<Prepared, Status>
-    requires named { (words : List (List ℕ)) × IsCommand words command }
-    ensures prepared { IfOk result (PreparesCommand command (port (S.left source.old) (S.faults source.old))
-        (port (S.left source.new) (S.faults source.new))) }
-    ensures none { IfErr result (PreparesNone command (port (S.left source.old) (S.faults source.old))
-        (port (S.left source.new) (S.faults source.new))) }
+    requires named { HasWords command }
+    ensures prepared { IfOk result (between S.left S.faults source.old source.new (PreparesCommand command)) }
+    ensures none { IfErr result (between S.left S.faults source.old source.new (PreparesNone command)) }
     ensures counted { S.faults source.old ≤ S.faults source.new }
 {
     match command {
@@ -161,13 +156,11 @@ fn play_alone<L: Ledger>(
     game: Game,
     steps: &mut Steps<L>,
 ) -> Result<Series, Memory>
-    requires named { (words : List (List ℕ)) × IsCommand words command }
+    requires named { HasWords command }
     requires alone { workers_of command ≡ 1 }
     requires game { IsGame game.checked (plan_seen game.plan) }
-    ensures series { IfOk result (IsSeriesOf (options_of command) (about_of game.checked game.plan.turns)
-        (plan_seen game.plan) steps.old steps.new) }
-    ensures few { steps.new ≤ steps.old + counted_playouts (options_of command)
-        (looks_of (about_of game.checked game.plan.turns) (plan_seen game.plan)) }
+    ensures series { IfOk result (IsSeriesFor command game steps.old steps.new) }
+    ensures few { steps.new ≤ steps.old + counted_for command game }
 {
     let Game { checked, plan } = game;
     let Options { cache, format, .. } = command.options();
@@ -181,10 +174,9 @@ fn answer_alone<S: Source, L: Ledger>(
     source: &mut S,
     steps: &mut Steps<L>,
 ) -> Result<Answer, Status>
-    requires named { (words : List (List ℕ)) × IsCommand words command }
+    requires named { HasWords command }
     requires alone { workers_of command ≡ 1 }
-    ensures answers { AnswersCommand command (port (S.left source.old) (S.faults source.old))
-        (port (S.left source.new) (S.faults source.new))
+    ensures answers { between S.left S.faults source.old source.new (AnswersCommand command)
         steps.old steps.new result }
     ensures counted { S.faults source.old ≤ S.faults source.new }
 {
@@ -208,11 +200,10 @@ fn play_together<R: Threads + Wait + Sync, G: Gate>(
     game: Game,
     gate: &G,
 ) -> Result<Series, Memory>
-    requires named { (words : List (List ℕ)) × IsCommand words command }
+    requires named { HasWords command }
     requires many { 1 < workers_of command }
     requires game { IsGame game.checked (plan_seen game.plan) }
-    ensures { IfOk result (IsSeriesOf (options_of command) (about_of game.checked game.plan.turns)
-        (plan_seen game.plan) 0 0) }
+    ensures { IfOk result (IsSeriesFor command game 0 0) }
 {
     let Game { checked, plan } = game;
     let Options {
@@ -233,11 +224,9 @@ fn answer_together<R: Threads + Wait + Sync, S: Source, G: Gate>(
     source: &mut S,
     gate: &G,
 ) -> Result<Answer, Status>
-    requires named { (words : List (List ℕ)) × IsCommand words command }
+    requires named { HasWords command }
     requires many { 1 < workers_of command }
-    ensures answers { AnswersCommand command (port (S.left source.old) (S.faults source.old))
-        (port (S.left source.new) (S.faults source.new))
-        0 0 result }
+    ensures answers { between S.left S.faults source.old source.new (AnswersCommand command) 0 0 result }
     ensures counted { S.faults source.old ≤ S.faults source.new }
 {
     match prepare_command(alloc, command, source)? {
@@ -262,11 +251,10 @@ fn answer_from<S: Source, L: Ledger>(
     requires name { blank.name ≡ L.name }
     requires parts { blank.parts ≡ L.parts }
     requires some { 0 < blank.parts }
-    requires named { (words : List (List ℕ)) × IsCommand words command }
+    requires named { HasWords command }
     requires alone { workers_of command ≡ 1 }
-    ensures answers { (playouts : ℕ) × AnswersCommand command
-        (port (S.left source.old) (S.faults source.old)) (port (S.left source.new) (S.faults source.new))
-        0 playouts result }
+    ensures answers { (playouts : ℕ)
+        × between S.left S.faults source.old source.new (AnswersCommand command) 0 playouts result }
     ensures counted { S.faults source.old ≤ S.faults source.new }
 {
     let mut steps = Steps::<L>::new(blank);
@@ -307,12 +295,9 @@ pub fn run_alone<S: Source, O: Sink, N: Sink, L: Ledger>(
     out: &mut O,
     notes: &mut N,
     steps: &mut Steps<L>,
-) -> Status
-    ensures ends { Ends RefusesMany (map string_bytes words.now)
-        (moment (S.left source.old) (S.faults source.old) (O.written out.old) (O.faults out.old)
-        (N.written notes.old) (N.faults notes.old))
-        (moment (S.left source.new) (S.faults source.new) (O.written out.new) (O.faults out.new)
-        (N.written notes.new) (N.faults notes.new))
+) -> Status    ensures ends { Ends RefusesMany (map string_bytes words.now)
+        (moment S.left S.faults O.written O.faults N.written N.faults source.old out.old notes.old)
+        (moment S.left S.faults O.written O.faults N.written N.faults source.new out.new notes.new)
         steps.old steps.new result }
     ensures alike { AlikeSamePicks }
     ensures same { TextsAreTheSame }
@@ -353,12 +338,9 @@ pub fn run<R: Threads + Wait + Sync, S: Source, O: Sink, N: Sink, G: Gate>(
     out: &mut O,
     notes: &mut N,
     gate: &G,
-) -> Status
-    ensures ends { (playouts : ℕ) × Ends Runs (map string_bytes words.now)
-        (moment (S.left source.old) (S.faults source.old) (O.written out.old) (O.faults out.old)
-        (N.written notes.old) (N.faults notes.old))
-        (moment (S.left source.new) (S.faults source.new) (O.written out.new) (O.faults out.new)
-        (N.written notes.new) (N.faults notes.new))
+) -> Status    ensures ends { (playouts : ℕ) × Ends Runs (map string_bytes words.now)
+        (moment S.left S.faults O.written O.faults N.written N.faults source.old out.old notes.old)
+        (moment S.left S.faults O.written O.faults N.written N.faults source.new out.new notes.new)
         0 playouts result }
     ensures alike { AlikeSamePicks }
     ensures same { TextsAreTheSame }
