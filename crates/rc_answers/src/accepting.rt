@@ -59,6 +59,8 @@ pub fn accept(alloc: Global, form: &Form) -> Result<Checked, SourceFail>
     requires printable { IsPrintable (tree_of form.now) }
     requires of_atoms { IsOfAtoms (tree_of form.now) }
     ensures accepted { IfOk result (λ checked. IsAccepted (tree_of form.now) checked) }
+
+    // It is refused with its first fault, unless memory ran out.
     ensures refused { IfErr result (λ fail. IfSourceFault fail (HasFirstFault (tree_of form.now))) }
 {
     let sheet = sheet_of(alloc, form)?;

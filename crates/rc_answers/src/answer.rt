@@ -62,6 +62,8 @@ pub enum Prepared {
 pub fn prepare(alloc: Global, task: Task, source: &[u8]) -> Result<Prepared, Memory>
     requires small { length source.now ≤ longest_text }
     requires searches { CanSearch task }
+
+    // It is the command's answer to these bytes, or the sheet and the plan whose matches are to be played for it.
     ensures { IfOk result (IsPrepared task source.now) }
 {
     match read_forms(alloc, source, task.wanted()) {

@@ -24,6 +24,8 @@ pub fn bench_game(alloc: Global, number: u16) -> Result<Game, Memory>
     requires some { 1 ≤ number }
     requires few { number ≤ most_in_bench }
     ensures is { IfOk result (λ game. IsTrickGame game.checked) }
+
+    // The bench's game has no other sheet.
     ensures one { IfOk result (λ game. (other : Sheet) → IsTrickGame other → other ≡ game.checked) }
     ensures plan { IfOk result (λ game. plan_seen game.plan ≡ bench_plan number) }
     ensures game { IfOk result (λ game. IsGame game.checked (plan_seen game.plan)) }

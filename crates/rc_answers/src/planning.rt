@@ -22,10 +22,14 @@ pub fn read_plan(alloc: Global, source: &[u8], forms: &Forms, players: u8) -> Re
     requires placed { All (λ form. IsPlaced (length source.now) (tree_of form)) forms.now.list.items }
     requires some { 1 ≤ players }
     requires few { players ≤ 8 }
+
+    // The plan stands behind the sheet, and nothing behind it.
     ensures planned { IfOk result (λ plan.
         IsPlanned source.now players (trees_of forms.now.list.items) forms.now.rest (plan_seen plan)) }
     ensures limits { IfOk result (λ plan. IsWithinLimits (plan_seen plan)) }
     ensures seats { IfOk result (λ plan. length (plan_seen plan).strategies ≡ players) }
+
+    // The fault is the first one, unless memory ran out.
     ensures fault { IfErr result (λ fail. IfPlanFault fail (λ fault.
         IsPlanFaulty source.now players (trees_of forms.now.list.items) forms.now.rest fault.kind fault.at)) }
 {
@@ -46,6 +50,8 @@ pub fn plan_behind(alloc: Global, forms: &Forms, players: u8) -> Result<Plan, Pl
     ensures behind { IfOk result (λ plan. IsBehind players (trees_of forms.now.list.items) (plan_seen plan)) }
     ensures limits { IfOk result (λ plan. IsWithinLimits (plan_seen plan)) }
     ensures seats { IfOk result (λ plan. length (plan_seen plan).strategies ≡ players) }
+
+    // The fault is the first one, unless memory ran out.
     ensures fault { IfErr result (λ fail. IfPlanFault fail (λ fault.
         IsFaultyBehind players (trees_of forms.now.list.items) forms.now.rest fault.kind fault.at)) }
 {

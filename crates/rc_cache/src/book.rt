@@ -91,9 +91,15 @@ impl<N: BookNaming> Book<N> {
     /// the lane are as before.
     pub fn look(&mut self, alloc: Global, lane: &mut Lane<N>, key: &Key) -> Result<Reply, Memory>
         requires served { (key_seen key.now).about ≡ N.about }
+
+        // It hits exactly where the calls before leave the key in the book.
         ensures hit { IfOk result (λ reply. is_hit_of reply ≡ stands (key_seen key.now) (keys_in N.capacity self.old)) }
+
+        // Totals that are found are those that its playouts come to.
         ensures totals { IfOk result
             (λ reply. IfHit reply (λ totals. totals ≡ tally_of (key_seen key.now).about (key_seen key.now).ask)) }
+
+        // The journal has one line more, with the lane's number and whether it hit, and the lane counts the same.
         ensures journal { IfOk result
             (λ reply. self.new ≡ with_line self.old lane.old.number (looked (key_seen key.now) (is_hit_of reply))) }
         ensures lane { IfOk result (λ reply. lane.new
@@ -120,6 +126,8 @@ impl<N: BookNaming> Book<N> {
     /// runs out, the book, its journal and the lane are as before.
     pub fn keep(&mut self, lane: &mut Lane<N>, entry: Entry) -> Result<(), Memory>
         requires served { entry.about ≡ N.about }
+
+        // The journal has one line more, with the lane's number, and the lane counts the same.
         ensures journal { OnOk result (self.new ≡ with_line self.old lane.old.number (kept entry)) }
         ensures lane { OnOk result (lane.new ≡ counted lane.old (kept entry)) }
         ensures lacking { OnErr result ((self.new ≡ self.old) × (lane.new ≡ lane.old)) }
@@ -140,6 +148,8 @@ impl<N: BookNaming> Book<N> {
     /// The calls so far. Each look says what is so, and each key is of the about that the book serves.
     pub fn journal(&self) -> &[Call]
         ensures is { map line_seen result.now ≡ self.now }
+
+        // Each look hit exactly where its key was in the book then.
         ensures legal { is_legal N.capacity (calls_of self.now) ≡ true }
         ensures served { AllByRecursion (λ line. about_in line.call ≡ N.about) self.now }
     {

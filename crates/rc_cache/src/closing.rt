@@ -60,6 +60,8 @@ impl Totals {
 pub fn close<N: BookNaming>(book: Book<N>, lanes: Vec<Lane<N>>) -> Totals
     requires all { length lanes.items ≡ N.lanes }
     ensures book { (result.capacity ≡ N.capacity) × (result.lanes ≡ N.lanes) }
+
+    // What the lanes counted is what the journal has.
     ensures looks { (result.looks ≡ looks_of (calls_of book)) × (result.looks ≡ looks_in lanes.items) }
     ensures hits { (result.hits ≡ hits_of (calls_of book)) × (result.hits ≡ hits_in lanes.items) }
     ensures keeps { (result.keeps ≡ keeps_of (calls_of book)) × (result.keeps ≡ keeps_in lanes.items) }

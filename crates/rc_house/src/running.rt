@@ -278,16 +278,8 @@ fn command_for(alloc: Global, words: &[String], several: bool) -> Result<Command
 }
 
 /// Runs a command with one worker; where its words name more, they are none of a command's. It waits for nobody and
-/// always returns. Each playout of `play` and of `bench` is a step. The other clauses hand on laws and refuse no body.
-/// `alike`: in what is played, two decisions of one seat with one strategy and one seed of the seats, at states that
-/// are alike to that seat, have the same item, in whatever matches of that sheet and turn limit they stand. `same`:
-/// what is written to a source in one format is the same whoever plays. `legal`: what `play` writes for a source, in
-/// either format, `check` answers to be legal behind that source. `migrated`: to the same `migrate` answers what `play`
-/// writes in format 2. `measured`: and `measure` the measures of the matches that were played. `plays`: in what `play`
-/// writes, each match is a play that the sheet allows for its seeded shuffles, up to its end or the turn limit, and
-/// each choice is its strategy's function of its seat's view and of the seed of the seats. `views`: what `watch` writes
-/// is read as a log, and tells what the seat saw in the match. `absent`: it refuses a seat or a match exactly where
-/// sheet and plan are accepted and have none such.
+/// always returns. Each playout of `play` and of `bench` is a step. All clauses but `ends` hand on laws and refuse no
+/// body.
 pub fn run_alone<S: Source, O: Sink, N: Sink, L: Ledger>(
     alloc: Global,
     words: &[String],
@@ -295,18 +287,41 @@ pub fn run_alone<S: Source, O: Sink, N: Sink, L: Ledger>(
     out: &mut O,
     notes: &mut N,
     steps: &mut Steps<L>,
-) -> Status    ensures ends { Ends RefusesMany (map string_bytes words.now)
+) -> Status
+    // How the words end: what the ports have received then, the steps that were counted, and the status.
+    ensures ends { Ends RefusesMany (map string_bytes words.now)
         (moment S.left S.faults O.written O.faults N.written N.faults source.old out.old notes.old)
         (moment S.left S.faults O.written O.faults N.written N.faults source.new out.new notes.new)
         steps.old steps.new result }
+
+    // In what is played, two decisions of one seat with one strategy and one seed of the seats, at states that are
+    // alike to that seat, have the same item, in whatever matches of that sheet and turn limit they stand.
     ensures alike { AlikeSamePicks }
+
+    // What is written to a source in one format is the same whoever plays.
     ensures same { TextsAreTheSame }
+
+    // What `play` writes for a source, in either format, `check` answers to be legal behind that source.
     ensures legal { PlayedIsChecked }
+
+    // To the same `migrate` answers what `play` writes in format 2.
     ensures migrated { PlayedIsMigrated }
+
+    // And `measure` the measures of the matches that were played.
     ensures measured { PlayedIsMeasured }
+
+    // In what `play` writes, each match is a play that the sheet allows for its seeded shuffles, up to its end or the
+    // turn limit, and each choice is its strategy's function of its seat's view and of the seed of the seats.
     ensures plays { WrittenIsPlayed }
+
+    // What `watch` writes is read as a log, and tells what the seat saw in the match.
     ensures views { WatchedIsRead }
+
+    // Where a strategy searches, two of its decisions of one seat with one seed of the seats, at states that are alike
+    // to that seat, have the same item, in whatever plans.
     ensures searches { AlikeSameSearches }
+
+    // `watch` refuses a seat or a match exactly where sheet and plan are accepted and have none such.
     ensures absent { AbsentExactly }
 {
     alike_decisions_have_one_item();
@@ -338,7 +353,9 @@ pub fn run<R: Threads + Wait + Sync, S: Source, O: Sink, N: Sink, G: Gate>(
     out: &mut O,
     notes: &mut N,
     gate: &G,
-) -> Status    ensures ends { (playouts : ℕ) × Ends Runs (map string_bytes words.now)
+) -> Status
+    // How the words end: what the ports have received then, and the status. The steps are those of some counter.
+    ensures ends { (playouts : ℕ) × Ends Runs (map string_bytes words.now)
         (moment S.left S.faults O.written O.faults N.written N.faults source.old out.old notes.old)
         (moment S.left S.faults O.written O.faults N.written N.faults source.new out.new notes.new)
         0 playouts result }

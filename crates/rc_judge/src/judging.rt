@@ -45,8 +45,12 @@ pub fn judge(alloc: Global, about: &About, plan: &Plan, text: &HouseText) -> Res
     requires seats { length plan.now.strategies.items ≡ about.now.sheet.players }
     requires text { IsHouseText (house_seen text.now) }
     requires few { 1 + length (lines_of (house_seen text.now)) ≤ 33554432 }
+
+    // Where a line is illegal, it is the first one that the definitions find, and why.
     ensures first { IfOk result (λ v. verdict_seen v
         ≡ first_illegal about.now dealing_of (plan_seen plan.now) 1 (unmarked (house_seen text.now))) }
+
+    // There is none exactly where sheet and plan allow all that the text tells.
     ensures legal { IfOk result (λ v. (v ≡ Legal)
         ↔ IsLegal about.now dealing_of (plan_seen plan.now) (house_seen text.now)) }
 {
@@ -72,8 +76,13 @@ pub fn judge_named(
     requires text { IsText true (named_seen named.now) }
     requires fits { Fits named.now }
     requires few { length (lines_of (house_seen named.now.text)) ≤ 33554432 }
+
+    // Where a line is illegal, it is the first one that the definitions find, and why. The head and the legend are
+    // counted, too.
     ensures first { IfOk result (λ v. verdict_seen v ≡ first_illegal about.now dealing_of (plan_seen plan.now)
         (1 + length (legend_of about.now.sheet about.now.shape)) (named_seen named.now)) }
+
+    // There is none exactly where sheet and plan allow all that the text tells, and its marks are those of its items.
     ensures legal { IfOk result (λ v. (v ≡ Legal)
         ↔ IsLegalText about.now dealing_of (plan_seen plan.now) true (named_seen named.now)) }
 {
@@ -101,10 +110,16 @@ pub fn judge_and_name(
     requires seats { length plan.now.strategies.items ≡ about.now.sheet.players }
     requires text { IsHouseText (house_seen text.now) }
     requires few { 1 + length (lines_of (house_seen text.now)) ≤ 33554432 }
+
+    // Where a line is illegal, it is the first one that the definitions find, and why.
     ensures first { IfOk result (λ n. illegal_in n
         ≡ first_illegal about.now dealing_of (plan_seen plan.now) 1 (unmarked (house_seen text.now))) }
+
+    // There is none exactly where sheet and plan allow all that the text tells.
     ensures legal { IfOk result (λ n. (illegal_in n ≡ None)
         ↔ IsLegal about.now dealing_of (plan_seen plan.now) (house_seen text.now)) }
+
+    // Where the text is legal, what its items bind is told as the definitions tell it.
     ensures marks { IfOk result (λ n. IfLegal n (λ bounds. all_bounds bounds.items
         ≡ played.bounds_of about.now (plan_seen plan.now) (house_seen text.now))) }
     ensures fits { IfOk result (λ n. IfLegal n (λ bounds. AreFor text.now.matches.items bounds.items)) }

@@ -31,6 +31,8 @@ pub fn bounds_of(
     requires text { IsHouseText (house_seen text.now) }
     requires few { 1 + length (lines_of (house_seen text.now)) ≤ 33554432 }
     requires legal { IsLegal about.now dealing_of (plan_seen plan.now) (house_seen text.now) }
+
+    // The text is the same, and its marks are those of its items.
     ensures named { IfOk result (λ named. named_seen named
         ≡ told_in true about.now (plan_seen plan.now) (house_seen text.now)) }
     ensures fits { IfOk result Fits }

@@ -37,13 +37,20 @@ pub fn records_of<C: Chooser, L: Ledger>(
     requires served { C.serves chooser.old about.now.value }
     requires matches { length plan.now.value.matches.items ≤ most_matches }
     requires seats { length plan.now.value.strategies.items ≡ about.now.value.sheet.players }
+
+    // The records are those that the definitions give for the plan's matches, in order.
     ensures are { IfOk result (λ records. map played_seen records.items
         ≡ records_below about.now.value (plan_seen plan.now.value) (length plan.now.value.matches.items)) }
     ensures count { IfOk result (λ records. length records.items ≡ length plan.now.value.matches.items) }
     ensures each { IfOk result (λ records. All
         (λ p. length p.record.scores.items ≡ about.now.value.sheet.players) records.items) }
+
+    // What choices bind is noted as the definitions tell it, or nothing is, where that isn't asked for.
     ensures noted { IfOk result (λ records. All
         (IsNotedAs noted about.now.value (plan_seen plan.now.value)) records.items) }
+
+    // Counts and steps rise as where what the rollout decisions of all matches ask is looked up in order; where memory
+    // runs out, the first of it.
     ensures asked { OnOk result (AsksAll
         (looks_below about.now.value (plan_seen plan.now.value) (length plan.now.value.matches.items))
         (C.counts chooser.old) (C.counts chooser.new) steps.old steps.new) }
@@ -75,17 +82,28 @@ pub fn record_of<C: Chooser, L: Ledger>(
     requires served { C.serves chooser.old about.now.value }
     requires number { number < length plan.now.value.matches.items }
     requires seats { length plan.now.value.strategies.items ≡ about.now.value.sheet.players }
+
+    // The record is the one that the definitions give for this match of the plan.
     ensures is { IfOk result (λ p. keyed_match about.now.value (plan_seen plan.now.value) number
         ≡ Some (played_seen p)) }
     ensures each { IfOk result (λ p. length p.record.scores.items ≡ about.now.value.sheet.players) }
+
+    // What choices bind is noted as the definitions tell it, or nothing is, where that isn't asked for.
     ensures noted { IfOk result (IsNoted noted about.now.value (plan_seen plan.now.value) number) }
+
+    // Counts and steps rise as where what the match's rollout decisions ask is looked up in order; where memory runs
+    // out, the first of it.
     ensures asked { OnOk result (AsksAll (asks_of about.now.value (plan_seen plan.now.value) number)
         (C.counts chooser.old) (C.counts chooser.new) steps.old steps.new) }
     ensures lacking { OnErr result (AsksSome (asks_of about.now.value (plan_seen plan.now.value) number)
         (C.counts chooser.old) (C.counts chooser.new) steps.old steps.new) }
+
+    // The chooser still serves whatever it served.
     ensures same { (other : PureAbout) → C.serves chooser.old other → C.serves chooser.new other }
     ensures named { C.name chooser.new ≡ C.name chooser.old }
     ensures rises { steps.old ≤ steps.new }
+
+    // No more steps are counted than where none of these lookups hits.
     ensures bounded { steps.new ≤ steps.old + all_costs (asks_of about.now.value (plan_seen plan.now.value) number) }
 {
     let machine = FlatMachine::onward_start(alloc, code, about)?;

@@ -34,8 +34,12 @@ pub fn told(
     requires few { length played.items ≤ most_matches }
     requires each { All (λ p. length p.record.scores.items ≡ length plan.now.strategies.items) played.items }
     ensures matches { IfOk result (λ series. series.named.text.matches.items ≡ map (λ p. p.record) played.items) }
+
+    // The standings are those of the plan after these matches.
     ensures standings { IfOk result (λ series. map standing_seen series.named.text.standings.items
         ≡ standings_of (plan_seen plan.now) (map played_seen played.items)) }
+
+    // There is a list of what choices bind for each match, or no list where that wasn't noted.
     ensures bounds { IfOk result (λ series. series.named.bounds.items ≡ lists_of noted played.items) }
     ensures totals { IfOk result (λ series. series.totals ≡ totals) }
 {

@@ -46,6 +46,8 @@ pub fn rivals_of(
     requires within { IsWithinLimits (plan_seen plan) }
     requires seats { length (plan_seen plan).strategies ≡ checked.players }
     requires rival { IsRival rival.now }
+
+    // The bytes are the house text that the definitions give where the search plays for that strategy.
     ensures { IfOk result (λ bytes. bytes.items
         ≡ rival_house (about_of checked plan.turns) (rival_seen rival.now) (plan_seen plan)) }
 {

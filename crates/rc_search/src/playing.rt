@@ -53,10 +53,15 @@ pub fn play_rival<M: Machine + Drop, C: Chooser, L: Ledger>(
     requires served { C.serves chooser.old job.now.about.value }
     requires code { StandsFor job.now.about.value.sheet (code_seen code.now.value) }
     requires rival { IsRival rival.now }
+
+    // The record is the one that the definitions give for this match of the plan, in which the seat with the rival's
+    // strategy searches.
     ensures is { IfOk result (λ r.
         rival_match job.now.about.value (rival_seen rival.now) (plan_seen job.now.plan.value) job.now.number
         ≡ Some (record_seen r)) }
     ensures each { IfOk result (λ r. length r.scores.items ≡ job.now.about.value.sheet.players) }
+
+    // The chooser still serves whatever it served.
     ensures same { (about : PureAbout) → C.serves chooser.old about → C.serves chooser.new about }
 {
     // what an about keeps

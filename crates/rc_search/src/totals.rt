@@ -42,8 +42,12 @@ pub fn plain_totals<L: Ledger>(
 ) -> Result<Found, Memory>
     requires searched { CanBeSearched seen.now }
     requires rival { IsRival rival.now }
+
+    // These are the totals that the definitions give to what the seat sees.
     ensures are { IfOk result (λ found. found.totals.items
         ≡ totals seen.now.about.value (rival_seen rival.now) seen.now.seed (view_seen seen.now.view)) }
+
+    // A step is counted for each item that is tried.
     ensures counted { OnOk result (steps.new
         ≡ steps.old + plain_steps seen.now.about.value (rival_seen rival.now) seen.now.seed (view_seen seen.now.view)) }
     ensures told { IfOk result (λ found. Tells 0 found.applied steps.old steps.new) }
@@ -71,8 +75,12 @@ pub fn pruned_totals<L: Ledger>(
     requires searched { CanBeSearched seen.now }
     requires rival { IsRival rival.now }
     requires two { HasTwoTeams seen.now.about.value.sheet }
+
+    // These are the totals that the definitions give to what the seat sees.
     ensures are { IfOk result (λ found. found.totals.items
         ≡ totals seen.now.about.value (rival_seen rival.now) seen.now.seed (view_seen seen.now.view)) }
+
+    // No more items are tried than if none were left out.
     ensures bounded { OnOk result (steps.new
         ≤ steps.old + plain_steps seen.now.about.value (rival_seen rival.now) seen.now.seed (view_seen seen.now.view)) }
     ensures told { IfOk result (λ found. Tells 0 found.applied steps.old steps.new) }

@@ -40,6 +40,8 @@ pub fn watched(
     requires seats { length (plan_seen plan).strategies ≡ checked.players }
     requires seat { seat < checked.players }
     requires number { number < length (plan_seen plan).matches }
+
+    // The bytes are the log that the definitions give of what the seat sees in that match.
     ensures { IfOk result (λ bytes. bytes.items ≡ log_of (about_of checked plan.turns) (plan_seen plan) number seat) }
 {
     let about = shared_about(alloc, checked, plan.turns)?;

@@ -36,15 +36,24 @@ pub fn play_shared<'a, N: BookNaming + Send + Sync, R: Threads + Wait + Sync, G:
         × (length plan.now.value.matches.items ≤ most_matches) }
     requires seats { length plan.now.value.strategies.items ≡ about.now.value.sheet.players }
     requires memos { (1 ≤ length memos.items) × (length memos.items ≤ most_workers) }
+
+    // The records are those that the definitions give for the plan's matches, in order.
     ensures records { IfOk result (λ r. map played_seen r.0.items
         ≡ matches_of about.now.value (plan_seen plan.now.value)) }
     ensures count { IfOk result (λ r. length r.0.items ≡ length plan.now.value.matches.items) }
     ensures each { IfOk result (λ r. All
         (λ p. length p.record.scores.items ≡ about.now.value.sheet.players) r.0.items) }
+
+    // What choices bind is noted as the definitions tell it, or nothing is, where that isn't asked for.
     ensures noted { IfOk result (λ r. All (IsNotedAs noted about.now.value (plan_seen plan.now.value)) r.0.items) }
+
+    // Together the lanes make a look for each rollout decision of these matches, and each look hits, or is followed by
+    // a keep.
     ensures rise { IfOk result (λ r. RiseTogether (length (looks_of about.now.value (plan_seen plan.now.value)))
         (map shared_counts memos.entry.items) (map shared_counts r.1.items)) }
     ensures lanes { IfOk result (λ r. length r.1.items ≡ length memos.entry.items) }
+
+    // The lanes come back in the order of their memos.
     ensures order { IfOk result (λ r. map (λ lane. lane.number) r.1.items
         ≡ map (λ memo. memo.number) memos.entry.items) }
 {
