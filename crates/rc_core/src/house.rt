@@ -3,7 +3,7 @@ ghost use Rattle.std.specs.Prelude.{◌≡◌, ◌<◌, ◌≤◌, ◌^◌, leng
 ghost use Rattle.rc_model.specs.Numbers.{below};
 ghost use Rattle.rc_code.specs.Seen.{code_seen};
 ghost use Rattle.rc_code.specs.Stands.{StandsFor};
-ghost use Rattle.rc_rules.specs.Plan.{plan_seen};
+ghost use Rattle.rc_rules.specs.Plan.{plan_seen, IsPlanFor};
 ghost use Rattle.rc_rules.specs.Record.{record_seen};
 ghost use Rattle.rc_redraw.specs.Asking.{key_seen};
 ghost use Rattle.rc_match.specs.Lane.{begun, phase_seen};
@@ -70,7 +70,7 @@ impl House {
         plan: Arc<Plan>,
         capacity: u32,
     ) -> Result<House, Memory>
-        requires seats { length plan.value.strategies.items ≡ about.value.sheet.players }
+        requires seats { IsPlanFor about.value plan.value }
         requires matches { length plan.value.matches.items < 2 ^ 32 }
         requires capacity { 1 ≤ capacity }
         ensures is { IfOk result (λ house. house ≡ opened about.value (plan_seen plan.value) capacity) }

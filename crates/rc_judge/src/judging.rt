@@ -15,7 +15,7 @@ ghost use Rattle.rc_text_model.specs.Legal.{IsLegal, IsLegalText};
 ghost use Rattle.rc_text_model.specs.PlayedLaws as played;
 ghost use Rattle.rc_text_model.specs.Why.{Illegal};
 ghost use Rattle.rc_judge.specs.declared.verdict.Verdict.TheVariants.{Legal};
-ghost use Rattle.rc_rules.specs.Plan.{plan_seen};
+ghost use Rattle.rc_rules.specs.Plan.{plan_seen, IsPlanFor};
 ghost use Rattle.rc_rules.specs.Record.{record_seen, standing_seen};
 ghost use Rattle.rc_text.specs.BoundSeen.{all_bounds, AreFor};
 ghost use Rattle.rc_text.specs.House.{house_seen, named_seen, Fits};
@@ -42,7 +42,7 @@ use std::alloc::Global;
 /// No memory is left.
 pub fn judge(alloc: Global, about: &About, plan: &Plan, text: &HouseText) -> Result<Verdict, Memory>
     requires within { IsWithinLimits (plan_seen plan.now) }
-    requires seats { length plan.now.strategies.items ≡ about.now.sheet.players }
+    requires seats { IsPlanFor about.now plan.now }
     requires text { IsHouseText (house_seen text.now) }
     requires few { 1 + length (lines_of (house_seen text.now)) ≤ 33554432 }
 
@@ -72,7 +72,7 @@ pub fn judge_named(
     named: &NamedText,
 ) -> Result<Verdict, Memory>
     requires within { IsWithinLimits (plan_seen plan.now) }
-    requires seats { length plan.now.strategies.items ≡ about.now.sheet.players }
+    requires seats { IsPlanFor about.now plan.now }
     requires text { IsText true (named_seen named.now) }
     requires fits { Fits named.now }
     requires few { length (lines_of (house_seen named.now.text)) ≤ 33554432 }
@@ -107,7 +107,7 @@ pub fn judge_and_name(
     text: &HouseText,
 ) -> Result<Named, Memory>
     requires within { IsWithinLimits (plan_seen plan.now) }
-    requires seats { length plan.now.strategies.items ≡ about.now.sheet.players }
+    requires seats { IsPlanFor about.now plan.now }
     requires text { IsHouseText (house_seen text.now) }
     requires few { 1 + length (lines_of (house_seen text.now)) ≤ 33554432 }
 
@@ -168,7 +168,7 @@ fn text_along<N: Margin>(
     margin: &mut N,
 ) -> Result<(), Halt>
     requires within { IsWithinLimits (plan_seen plan.now) }
-    requires seats { length plan.now.strategies.items ≡ about.now.sheet.players }
+    requires seats { IsPlanFor about.now plan.now }
     requires text { IsHouseText (house_seen text.now) }
     requires few { head + length (lines_of (house_seen text.now)) ≤ 67108864 }
     ensures is { Finds result (along.judged about.now dealing_of (plan_seen plan.now) head

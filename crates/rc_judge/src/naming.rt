@@ -5,7 +5,7 @@ ghost use Rattle.rc_plan_model.specs.Limits.{IsWithinLimits};
 ghost use Rattle.rc_text_model.specs.HouseText.{IsHouseText, lines_of};
 ghost use Rattle.rc_text_model.specs.Legal.{IsLegal};
 ghost use Rattle.rc_text_model.specs.PlayedLaws.{told_in};
-ghost use Rattle.rc_rules.specs.Plan.{plan_seen};
+ghost use Rattle.rc_rules.specs.Plan.{plan_seen, IsPlanFor};
 ghost use Rattle.rc_text.specs.House.{house_seen, named_seen, Fits};
 
 use crate::judging::judge_and_name;
@@ -27,7 +27,7 @@ pub fn bounds_of(
     text: &HouseText,
 ) -> Result<NamedText, Memory>
     requires within { IsWithinLimits (plan_seen plan.now) }
-    requires seats { length plan.now.strategies.items ≡ about.now.sheet.players }
+    requires seats { IsPlanFor about.now plan.now }
     requires text { IsHouseText (house_seen text.now) }
     requires few { 1 + length (lines_of (house_seen text.now)) ≤ 33554432 }
     requires legal { IsLegal about.now dealing_of (plan_seen plan.now) (house_seen text.now) }

@@ -4,7 +4,7 @@ use Rattle.rc_play_model.specs.About.{About}
 use Rattle.rc_play_model.specs.Keyed.{dealing_of}
 use Rattle.rc_play_model.specs.Plan.{Plan, deal_at}
 use Rattle.rc_rules.specs.Dealer.{Dealt}
-use Rattle.rc_rules.specs.Plan.{plan_seen}
+use Rattle.rc_rules.specs.Plan.{plan_seen, IsPlanFor}
 use Rattle.rc_match.specs.declared.job.Job.{Job}
 
 -- What is said of any match of a plan, said of the job's: what it is played by, the plan, and its number there.
@@ -17,7 +17,7 @@ IsInPlan job = job.number < length job.plan.value.matches.items
 
 -- and a strategy for each player
 abbrev pub HasStrategies : Job → Type 0
-HasStrategies job = length job.plan.value.strategies.items ≡ job.about.value.sheet.players
+HasStrategies job = IsPlanFor job.about.value job.plan.value
 
 -- the dealer shuffles by the seed of the match's shuffles
 abbrev pub DealsFor : Job → Dealt → Type 0

@@ -6,7 +6,7 @@ ghost use Rattle.rc_play_model.specs.Keyed.{keyed_match};
 ghost use Rattle.rc_code.specs.Seen.{code_seen};
 ghost use Rattle.rc_code.specs.Stands.{StandsFor};
 ghost use Rattle.rc_redraw.specs.Choosing.{AsksAll, AsksSome, all_costs};
-ghost use Rattle.rc_rules.specs.Plan.{plan_seen};
+ghost use Rattle.rc_rules.specs.Plan.{plan_seen, IsPlanFor};
 ghost use Rattle.rc_match.specs.Asks.{asks_of};
 ghost use Rattle.rc_match.specs.Named.{IsNoted};
 ghost use Rattle.rc_records.specs.Series.{IsNotedAs, looks_below, played_seen, records_below};
@@ -36,7 +36,7 @@ pub fn records_of<C: Chooser, L: Ledger>(
     requires code { StandsFor about.now.value.sheet (code_seen code.now.value) }
     requires served { C.serves chooser.old about.now.value }
     requires matches { length plan.now.value.matches.items ≤ most_matches }
-    requires seats { length plan.now.value.strategies.items ≡ about.now.value.sheet.players }
+    requires seats { IsPlanFor about.now.value plan.now.value }
 
     // The records are those that the definitions give for the plan's matches, in order.
     ensures are { IfOk result (λ records. map played_seen records.items
@@ -81,7 +81,7 @@ pub fn record_of<C: Chooser, L: Ledger>(
     requires code { StandsFor about.now.value.sheet (code_seen code.now.value) }
     requires served { C.serves chooser.old about.now.value }
     requires number { number < length plan.now.value.matches.items }
-    requires seats { length plan.now.value.strategies.items ≡ about.now.value.sheet.players }
+    requires seats { IsPlanFor about.now.value plan.now.value }
 
     // The record is the one that the definitions give for this match of the plan.
     ensures is { IfOk result (λ p. keyed_match about.now.value (plan_seen plan.now.value) number

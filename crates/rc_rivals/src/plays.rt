@@ -7,7 +7,7 @@ ghost use Rattle.rc_play_model.specs.House.{standings_of};
 ghost use Rattle.rc_plan_model.specs.Limits.{IsWithinLimits};
 ghost use Rattle.rc_code.specs.Seen.{code_seen};
 ghost use Rattle.rc_code.specs.Stands.{StandsFor};
-ghost use Rattle.rc_rules.specs.Plan.{plan_seen};
+ghost use Rattle.rc_rules.specs.Plan.{plan_seen, IsPlanFor};
 ghost use Rattle.rc_rules.specs.Record.{record_seen};
 ghost use Rattle.rc_search_model.specs.Rivals.{rival_house, rival_match, rival_records};
 ghost use Rattle.rc_search.specs.Rival.{IsRival, rival_seen};
@@ -67,7 +67,7 @@ fn told<N: BookNaming>(
     rival: &Rival,
 ) -> Result<Vec<u8>, Memory>
     requires within { IsWithinLimits (plan_seen plan.now.value) }
-    requires seats { length plan.now.value.strategies.items ≡ about.now.value.sheet.players }
+    requires seats { IsPlanFor about.now.value plan.now.value }
     requires code { StandsFor about.now.value.sheet (code_seen code.now.value) }
     requires rival { IsRival rival.now }
     requires name { (about.now.value ≡ N.about) × (1024 ≡ N.capacity) × (1 ≡ N.lanes) }
@@ -118,7 +118,7 @@ fn counted_records<C: Chooser, L: Ledger>(
     requires code { StandsFor about.now.value.sheet (code_seen code.now.value) }
     requires served { C.serves chooser.old about.now.value }
     requires matches { length plan.now.value.matches.items ≤ most_matches }
-    requires seats { length plan.now.value.strategies.items ≡ about.now.value.sheet.players }
+    requires seats { IsPlanFor about.now.value plan.now.value }
     requires rival { IsRival rival.now }
     ensures are { IfOk result (λ records. map record_seen records.items
         ≡ rival_records about.now.value (rival_seen rival.now) (plan_seen plan.now.value)) }
@@ -144,7 +144,7 @@ fn records_of<C: Chooser, L: Ledger>(
     requires code { StandsFor about.now.value.sheet (code_seen code.now.value) }
     requires served { C.serves chooser.old about.now.value }
     requires matches { length plan.now.value.matches.items ≤ most_matches }
-    requires seats { length plan.now.value.strategies.items ≡ about.now.value.sheet.players }
+    requires seats { IsPlanFor about.now.value plan.now.value }
     requires rival { IsRival rival.now }
     ensures are { IfOk result (λ records. map record_seen records.items
         ≡ rival_records about.now.value (rival_seen rival.now) (plan_seen plan.now.value)) }
@@ -174,7 +174,7 @@ fn record_of<C: Chooser, L: Ledger>(
     requires code { StandsFor about.now.value.sheet (code_seen code.now.value) }
     requires served { C.serves chooser.old about.now.value }
     requires number { number < length plan.now.value.matches.items }
-    requires seats { length plan.now.value.strategies.items ≡ about.now.value.sheet.players }
+    requires seats { IsPlanFor about.now.value plan.now.value }
     requires rival { IsRival rival.now }
     ensures is { IfOk result (λ r. rival_match about.now.value (rival_seen rival.now) (plan_seen plan.now.value) number
         ≡ Some (record_seen r)) }

@@ -1,5 +1,6 @@
 -- Plans as pure trees, in which no clause meets a vector.
-use Rattle.std.specs.Prelude.{map}
+use Rattle.std.specs.Prelude.{◌≡◌, length, map}
+use Rattle.rc_play_model.specs.About.{About}
 use Rattle.rc_play_model.specs.Plan.{scripted, random, rollout, Strategy as PureStrategy, Deal as PureDeal, Plan as PurePlan}
 use Rattle.rc_rules.specs.declared.plan.Strategy.{Strategy}
 use Rattle.rc_rules.specs.declared.plan.Strategy.TheVariants.{Script, Random, Rollout}
@@ -21,3 +22,7 @@ plan_seen plan =
       matches = map deal_seen plan.matches.items;
       turns = plan.turns;
     }
+
+-- it has a strategy for each player
+abbrev pub IsPlanFor : About → Plan → Type 0
+IsPlanFor about plan = length plan.strategies.items ≡ about.sheet.players

@@ -1,7 +1,7 @@
 //! What one worker does.
 ghost use Rattle.std.specs.Prelude.{◌≡◌, ◌<◌, ◌≤◌, [], length, All, IfOk, OnOk};
 ghost use Rattle.rc_play_model.specs.About.{About as PureAbout};
-ghost use Rattle.rc_rules.specs.Plan.{plan_seen};
+ghost use Rattle.rc_rules.specs.Plan.{plan_seen, IsPlanFor};
 ghost use Rattle.rc_code.specs.Seen.{code_seen};
 ghost use Rattle.rc_code.specs.Stands.{StandsFor};
 ghost use Rattle.rc_match.specs.Asks.{asks_of};
@@ -50,7 +50,7 @@ pub(crate) fn take_turn<C: Chooser + Drop, G: Gate>(
     requires own { worker.pass.table ≡ claims.now.table }
     requires none { worker.pass.numbers ≡ [] }
     requires count { claims.now.count ≡ length plan.now.value.matches.items }
-    requires seats { length plan.now.value.strategies.items ≡ about.now.value.sheet.players }
+    requires seats { IsPlanFor about.now.value plan.now.value }
     requires served { C.serves worker.chooser about.now.value }
     requires code { StandsFor about.now.value.sheet (code_seen code.now.value) }
     ensures { IfOk result (IsTurn C.name C.counts noted about.now.value (plan_seen plan.now.value) worker) }
@@ -86,7 +86,7 @@ fn counted_turn<C: Chooser + Drop, G: Gate, L: Ledger>(
     requires own { worker.pass.table ≡ claims.now.table }
     requires none { worker.pass.numbers ≡ [] }
     requires count { claims.now.count ≡ length plan.now.value.matches.items }
-    requires seats { length plan.now.value.strategies.items ≡ about.now.value.sheet.players }
+    requires seats { IsPlanFor about.now.value plan.now.value }
     requires served { C.serves worker.chooser about.now.value }
     requires code { StandsFor about.now.value.sheet (code_seen code.now.value) }
     ensures { IfOk result (IsTurn C.name C.counts noted about.now.value (plan_seen plan.now.value) worker) }
@@ -134,7 +134,7 @@ fn work<C: Chooser, G: Gate, L: Ledger>(
     requires own { pass.old.table ≡ claims.now.table }
     requires none { pass.old.numbers ≡ [] }
     requires count { claims.now.count ≡ length plan.now.value.matches.items }
-    requires seats { length plan.now.value.strategies.items ≡ about.now.value.sheet.players }
+    requires seats { IsPlanFor about.now.value plan.now.value }
     requires served { C.serves chooser.old about.now.value }
     requires code { StandsFor about.now.value.sheet (code_seen code.now.value) }
     ensures { IfOk result (λ records. IsWork noted about.now.value (plan_seen plan.now.value) pass.old pass.new
@@ -170,7 +170,7 @@ fn play<C: Chooser, L: Ledger>(
     requires served { C.serves chooser.old about.now.value }
     requires code { StandsFor about.now.value.sheet (code_seen code.now.value) }
     requires number { number < length plan.now.value.matches.items }
-    requires seats { length plan.now.value.strategies.items ≡ about.now.value.sheet.players }
+    requires seats { IsPlanFor about.now.value plan.now.value }
     ensures number { IfOk result (λ p. p.record.number ≡ number) }
     ensures is { IfOk result (IsRecordIn noted about.now.value (plan_seen plan.now.value)) }
     ensures rise { OnOk result (Rise (length (asks_of about.now.value (plan_seen plan.now.value) number))

@@ -5,7 +5,7 @@ ghost use Rattle.rc_play_model.specs.Keyed.{dealing_of, keyed_match};
 ghost use Rattle.rc_plan_model.specs.Limits.{IsWithinLimits};
 ghost use Rattle.rc_code.specs.Seen.{code_seen};
 ghost use Rattle.rc_code.specs.Stands.{StandsFor};
-ghost use Rattle.rc_rules.specs.Plan.{plan_seen};
+ghost use Rattle.rc_rules.specs.Plan.{plan_seen, IsPlanFor};
 ghost use Rattle.rc_rules.specs.Record.{record_seen};
 ghost use Rattle.rc_log_model.specs.Laws.{AllCount};
 ghost use Rattle.rc_log_model.specs.Log.{log};
@@ -72,7 +72,7 @@ fn watched_alone<L: Ledger>(
     requires parts { blank.parts ≡ L.parts }
     requires some { 0 < blank.parts }
     requires code { StandsFor about.now.value.sheet (code_seen code.now.value) }
-    requires seats { length plan.now.value.strategies.items ≡ about.now.value.sheet.players }
+    requires seats { IsPlanFor about.now.value plan.now.value }
     requires seat { seat < about.now.value.sheet.players }
     requires number { number < length plan.now.value.matches.items }
     ensures { IfOk result (λ bytes. bytes.items ≡ log_of about.now.value (plan_seen plan.now.value) number seat) }
@@ -100,7 +100,7 @@ fn record_alone<L: Ledger>(
     requires parts { blank.parts ≡ L.parts }
     requires some { 0 < blank.parts }
     requires code { StandsFor about.now.value.sheet (code_seen code.now.value) }
-    requires seats { length plan.now.value.strategies.items ≡ about.now.value.sheet.players }
+    requires seats { IsPlanFor about.now.value plan.now.value }
     requires number { number < length plan.now.value.matches.items }
     ensures { IfOk result (λ played.
         keyed_match about.now.value (plan_seen plan.now.value) number ≡ Some (record_seen played)) }

@@ -4,7 +4,7 @@ ghost use Rattle.rc_model.specs.Limits.{most_entries, most_workers};
 ghost use Rattle.rc_play_model.specs.About.{about_of};
 ghost use Rattle.rc_play_model.specs.House.{standings_of};
 ghost use Rattle.rc_plan_model.specs.Limits.{IsWithinLimits};
-ghost use Rattle.rc_rules.specs.Plan.{plan_seen};
+ghost use Rattle.rc_rules.specs.Plan.{plan_seen, IsPlanFor};
 ghost use Rattle.rc_rules.specs.Record.{record_seen, standing_seen};
 ghost use Rattle.rc_records.specs.Series.{IsTold, looks_of, matches_of};
 
@@ -92,7 +92,7 @@ fn played<N: BookNaming + Send + Sync, R: Threads + Wait + Sync, G: Gate>(
     gate: &G,
 ) -> Result<Series, Memory>
     requires within { IsWithinLimits (plan_seen plan.now.value) }
-    requires seats { length plan.now.value.strategies.items ≡ about.now.value.sheet.players }
+    requires seats { IsPlanFor about.now.value plan.now.value }
     requires some { (1 ≤ workers) × (workers ≤ most_workers) }
     requires room { (1 ≤ capacity) × (capacity ≤ most_entries) }
     requires name { (about.now.value ≡ N.about) × (capacity ≡ N.capacity) × (workers ≡ N.lanes) }

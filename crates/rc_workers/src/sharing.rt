@@ -1,7 +1,7 @@
 //! Matches by several workers over one book.
 ghost use Rattle.std.specs.Prelude.{◌≡◌, ◌≤◌, length, map, All, IfOk};
 ghost use Rattle.rc_model.specs.Limits.{most_matches, most_workers};
-ghost use Rattle.rc_rules.specs.Plan.{plan_seen};
+ghost use Rattle.rc_rules.specs.Plan.{plan_seen, IsPlanFor};
 ghost use Rattle.rc_cache.specs.Memos.{shared_counts};
 ghost use Rattle.rc_records.specs.Series.{IsNotedAs, looks_of, matches_of, played_seen};
 ghost use Rattle.rc_turns.specs.Gathered.{RiseTogether};
@@ -34,7 +34,7 @@ pub fn play_shared<'a, N: BookNaming + Send + Sync, R: Threads + Wait + Sync, G:
     requires about { N.about ≡ about.now.value }
     requires matches { (1 ≤ length plan.now.value.matches.items)
         × (length plan.now.value.matches.items ≤ most_matches) }
-    requires seats { length plan.now.value.strategies.items ≡ about.now.value.sheet.players }
+    requires seats { IsPlanFor about.now.value plan.now.value }
     requires memos { (1 ≤ length memos.items) × (length memos.items ≤ most_workers) }
 
     // The records are those that the definitions give for the plan's matches, in order.
