@@ -10,6 +10,7 @@ ghost use Rattle.rc_cache.specs.Replay.{stands, is_legal};
 ghost use Rattle.rc_cache.specs.Sums.{counted, idle_lanes, looks_of, hits_of, keeps_of};
 ghost use Rattle.rc_cache.specs.Book.{calls_of, keys_in, line_seen, with_line};
 ghost use Rattle.rc_cache.specs.Kept.{about_in};
+ghost use Rattle.rc_cache.specs.Fresh.{HasNames, HasParts};
 
 use crate::cache::{Cache, bring, find, put};
 use crate::calls::{Call, copied, is_hit, write};
@@ -66,8 +67,8 @@ impl<N: BookNaming> Book<N> {
         requires about { about.now ≡ N.about }
         requires capacity { (1 ≤ capacity) × (capacity ≤ most_entries) × (capacity ≡ N.capacity) }
         requires lanes { (1 ≤ lanes) × (lanes ≤ most_workers) × (lanes ≡ N.lanes) }
-        requires names { (fresh.looks.name ≡ N.looks) × (fresh.hits.name ≡ N.hits) × (fresh.keeps.name ≡ N.keeps) }
-        requires parts { (fresh.looks.parts ≡ N.lanes) × (fresh.hits.parts ≡ N.lanes) × (fresh.keeps.parts ≡ N.lanes) }
+        requires names { HasNames fresh N.looks N.hits N.keeps }
+        requires parts { HasParts fresh N.lanes }
         ensures book { IfOk result (λ made. made.0 ≡ []) }
         ensures lanes { IfOk result (λ made. made.1.items ≡ idle_lanes lanes) }
     {

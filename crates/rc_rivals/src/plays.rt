@@ -11,6 +11,7 @@ ghost use Rattle.rc_rules.specs.Plan.{plan_seen, IsPlanFor};
 ghost use Rattle.rc_rules.specs.Record.{record_seen};
 ghost use Rattle.rc_search_model.specs.Rivals.{rival_house, rival_match, rival_records};
 ghost use Rattle.rc_search.specs.Rival.{IsRival, rival_seen};
+ghost use Rattle.rc_cache.specs.Fresh.{HasNames, HasParts};
 
 use rc_cache::{BookNaming, Fresh, OwnBook};
 use rc_code::Code;
@@ -71,8 +72,8 @@ fn told<N: BookNaming>(
     requires code { StandsFor about.now.value.sheet (code_seen code.now.value) }
     requires rival { IsRival rival.now }
     requires name { (about.now.value ≡ N.about) × (1024 ≡ N.capacity) × (1 ≡ N.lanes) }
-    requires names { (fresh.looks.name ≡ N.looks) × (fresh.hits.name ≡ N.hits) × (fresh.keeps.name ≡ N.keeps) }
-    requires parts { (fresh.looks.parts ≡ N.lanes) × (fresh.hits.parts ≡ N.lanes) × (fresh.keeps.parts ≡ N.lanes) }
+    requires names { HasNames fresh N.looks N.hits N.keeps }
+    requires parts { HasParts fresh N.lanes }
     ensures { IfOk result (λ bytes. bytes.items
         ≡ rival_house about.now.value (rival_seen rival.now) (plan_seen plan.now.value)) }
 {

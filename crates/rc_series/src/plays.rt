@@ -11,6 +11,7 @@ ghost use Rattle.rc_rules.specs.Record.{record_seen, standing_seen};
 ghost use Rattle.rc_records.specs.Series.{IsTold, looks_of, matches_of};
 ghost use Rattle.rc_cache.specs.Hits.{hits, cost};
 ghost use Rattle.rc_cache.specs.Sums.{idle};
+ghost use Rattle.rc_cache.specs.Fresh.{HasNames, HasParts};
 
 use rc_cache::{
     Book, BookNaming, Fresh, OwnBook, one_worker_has_the_hits_of_its_looks,
@@ -89,8 +90,8 @@ fn played<N: BookNaming, L: Ledger>(
     requires code { StandsFor about.now.value.sheet (code_seen code.now.value) }
     requires room { (1 ≤ capacity) × (capacity ≤ most_entries) }
     requires name { (about.now.value ≡ N.about) × (capacity ≡ N.capacity) × (1 ≡ N.lanes) }
-    requires names { (fresh.looks.name ≡ N.looks) × (fresh.hits.name ≡ N.hits) × (fresh.keeps.name ≡ N.keeps) }
-    requires parts { (fresh.looks.parts ≡ N.lanes) × (fresh.hits.parts ≡ N.lanes) × (fresh.keeps.parts ≡ N.lanes) }
+    requires names { HasNames fresh N.looks N.hits N.keeps }
+    requires parts { HasParts fresh N.lanes }
     ensures matches { IfOk result (λ series. map record_seen series.named.text.matches.items
         ≡ matches_of about.now.value (plan_seen plan.now.value)) }
     ensures standings { IfOk result (λ series. map standing_seen series.named.text.standings.items
@@ -128,8 +129,8 @@ pub fn own_choices<N: BookNaming>(
 ) -> Result<Choices<OwnBook<N>>, Memory>
     requires room { (1 ≤ capacity) × (capacity ≤ most_entries) }
     requires name { (about.now ≡ N.about) × (capacity ≡ N.capacity) × (1 ≡ N.lanes) }
-    requires names { (fresh.looks.name ≡ N.looks) × (fresh.hits.name ≡ N.hits) × (fresh.keeps.name ≡ N.keeps) }
-    requires parts { (fresh.looks.parts ≡ N.lanes) × (fresh.hits.parts ≡ N.lanes) × (fresh.keeps.parts ≡ N.lanes) }
+    requires names { HasNames fresh N.looks N.hits N.keeps }
+    requires parts { HasParts fresh N.lanes }
     ensures code { IfOk result (λ choices. choices.code.value ≡ code.now.value) }
     ensures memo { IfOk result (λ choices. choices.memo ≡ ([], idle 0)) }
 {
@@ -147,8 +148,8 @@ fn own_book<N: BookNaming>(
 ) -> Result<OwnBook<N>, Memory>
     requires room { (1 ≤ capacity) × (capacity ≤ most_entries) }
     requires name { (about.now ≡ N.about) × (capacity ≡ N.capacity) × (1 ≡ N.lanes) }
-    requires names { (fresh.looks.name ≡ N.looks) × (fresh.hits.name ≡ N.hits) × (fresh.keeps.name ≡ N.keeps) }
-    requires parts { (fresh.looks.parts ≡ N.lanes) × (fresh.hits.parts ≡ N.lanes) × (fresh.keeps.parts ≡ N.lanes) }
+    requires names { HasNames fresh N.looks N.hits N.keeps }
+    requires parts { HasParts fresh N.lanes }
     ensures { IfOk result (λ own. own ≡ ([], idle 0)) }
 {
     let (book, mut lanes) = Book::<N>::new(alloc, fresh, about, capacity, 1)?;

@@ -7,6 +7,7 @@ ghost use Rattle.rc_plan_model.specs.Limits.{IsWithinLimits};
 ghost use Rattle.rc_rules.specs.Plan.{plan_seen, IsPlanFor};
 ghost use Rattle.rc_rules.specs.Record.{record_seen, standing_seen};
 ghost use Rattle.rc_records.specs.Series.{IsTold, looks_of, matches_of};
+ghost use Rattle.rc_cache.specs.Fresh.{HasNames, HasParts};
 
 use crate::sharing::{memos_of, play_shared};
 use rc_cache::{Book, BookNaming, Fresh, close};
@@ -96,8 +97,8 @@ fn played<N: BookNaming + Send + Sync, R: Threads + Wait + Sync, G: Gate>(
     requires some { (1 ≤ workers) × (workers ≤ most_workers) }
     requires room { (1 ≤ capacity) × (capacity ≤ most_entries) }
     requires name { (about.now.value ≡ N.about) × (capacity ≡ N.capacity) × (workers ≡ N.lanes) }
-    requires names { (fresh.looks.name ≡ N.looks) × (fresh.hits.name ≡ N.hits) × (fresh.keeps.name ≡ N.keeps) }
-    requires parts { (fresh.looks.parts ≡ N.lanes) × (fresh.hits.parts ≡ N.lanes) × (fresh.keeps.parts ≡ N.lanes) }
+    requires names { HasNames fresh N.looks N.hits N.keeps }
+    requires parts { HasParts fresh N.lanes }
     ensures matches { IfOk result (λ series. map record_seen series.named.text.matches.items
         ≡ matches_of about.now.value (plan_seen plan.now.value)) }
     ensures standings { IfOk result (λ series. map standing_seen series.named.text.standings.items
