@@ -16,7 +16,7 @@ ghost use Rattle.rc_code.specs.Meaning.{effects_in, first_effects, passed_over};
 ghost use Rattle.rc_code.specs.Seen.{instruction_seen, list_seen};
 ghost use Rattle.rc_code.specs.Serves.{IsSimple, AreSimple};
 ghost use Rattle.rc_board.specs.Undo.{Keeps};
-ghost use Rattle.rc_rules.specs.Dealer.{HasShuffled};
+ghost use Rattle.rc_rules.specs.Dealer.{ShuffledBy};
 
 use crate::everyone::{gather_all, gather_for_each, set_all, set_for_each};
 use crate::scopes::one_more;
@@ -99,7 +99,7 @@ pub fn do_block<D: Dealer>(
     ensures stands { OnOk result (Stands context.now board.new.laid frames.new.items) }
     ensures keeps { Keeps board.old board.new }
     ensures quiet { board.old.notes ≡ false → IsOk result }
-    ensures shuffled { HasShuffled (D.dealing dealer.old) (D.state dealer.old) (D.state dealer.new) }
+    ensures shuffled { ShuffledBy D.dealing D.state dealer.old dealer.new }
     ensures dealing { D.dealing dealer.new ≡ D.dealing dealer.old }
 {
     let mut rest = code;
@@ -140,7 +140,7 @@ fn do_first<'c, D: Dealer>(
     ensures stands { OnOk result (Stands context.now board.new.laid frames.new.items) }
     ensures keeps { Keeps board.old board.new }
     ensures quiet { board.old.notes ≡ false → IsOk result }
-    ensures shuffled { HasShuffled (D.dealing dealer.old) (D.state dealer.old) (D.state dealer.new) }
+    ensures shuffled { ShuffledBy D.dealing D.state dealer.old dealer.new }
     ensures dealing { D.dealing dealer.new ≡ D.dealing dealer.old }
 {
     match first {
@@ -205,7 +205,7 @@ fn do_if<D: Dealer>(
     ensures stands { OnOk result (Stands context.now board.new.laid frames.new.items) }
     ensures keeps { Keeps board.old board.new }
     ensures quiet { board.old.notes ≡ false → IsOk result }
-    ensures shuffled { HasShuffled (D.dealing dealer.old) (D.state dealer.old) (D.state dealer.new) }
+    ensures shuffled { ShuffledBy D.dealing D.state dealer.old dealer.new }
     ensures dealing { D.dealing dealer.new ≡ D.dealing dealer.old }
 {
     if asked_now(context, test, board.table(), &*frames) {
@@ -236,7 +236,7 @@ fn repeat<D: Dealer>(
     ensures stands { OnOk result (Stands context.now board.new.laid frames.new.items) }
     ensures keeps { Keeps board.old board.new }
     ensures quiet { board.old.notes ≡ false → IsOk result }
-    ensures shuffled { HasShuffled (D.dealing dealer.old) (D.state dealer.old) (D.state dealer.new) }
+    ensures shuffled { ShuffledBy D.dealing D.state dealer.old dealer.new }
     ensures dealing { D.dealing dealer.new ≡ D.dealing dealer.old }
 {
     let times = times_of(int_now(context, count, board.table(), &*frames));
@@ -280,7 +280,7 @@ fn for_each<D: Dealer>(
     ensures stands { OnOk result (Stands context.now board.new.laid frames.new.items) }
     ensures keeps { Keeps board.old board.new }
     ensures quiet { board.old.notes ≡ false → IsOk result }
-    ensures shuffled { HasShuffled (D.dealing dealer.old) (D.state dealer.old) (D.state dealer.new) }
+    ensures shuffled { ShuffledBy D.dealing D.state dealer.old dealer.new }
     ensures dealing { D.dealing dealer.new ≡ D.dealing dealer.old }
 {
     match domain {
@@ -321,7 +321,7 @@ fn for_players<D: Dealer>(
     ensures stands { OnOk result (Stands context.now board.new.laid frames.new.items) }
     ensures keeps { Keeps board.old board.new }
     ensures quiet { board.old.notes ≡ false → IsOk result }
-    ensures shuffled { HasShuffled (D.dealing dealer.old) (D.state dealer.old) (D.state dealer.new) }
+    ensures shuffled { ShuffledBy D.dealing D.state dealer.old dealer.new }
     ensures dealing { D.dealing dealer.new ≡ D.dealing dealer.old }
 {
     let mut scope = one_more(context.scope, Bind::Player(0));
@@ -364,7 +364,7 @@ fn for_cards<D: Dealer>(
     ensures stands { OnOk result (Stands context.now board.new.laid frames.new.items) }
     ensures keeps { Keeps board.old board.new }
     ensures quiet { board.old.notes ≡ false → IsOk result }
-    ensures shuffled { HasShuffled (D.dealing dealer.old) (D.state dealer.old) (D.state dealer.new) }
+    ensures shuffled { ShuffledBy D.dealing D.state dealer.old dealer.new }
     ensures dealing { D.dealing dealer.new ≡ D.dealing dealer.old }
 {
     let mut few = FewCards::new();
@@ -403,7 +403,7 @@ fn for_these<D: Dealer>(
     ensures stands { OnOk result (Stands context.now board.new.laid frames.new.items) }
     ensures keeps { Keeps board.old board.new }
     ensures quiet { board.old.notes ≡ false → IsOk result }
-    ensures shuffled { HasShuffled (D.dealing dealer.old) (D.state dealer.old) (D.state dealer.new) }
+    ensures shuffled { ShuffledBy D.dealing D.state dealer.old dealer.new }
     ensures dealing { D.dealing dealer.new ≡ D.dealing dealer.old }
 {
     let mut scope = one_more(context.scope, Bind::Player(0));
@@ -444,7 +444,7 @@ fn do_for<'g, D: Dealer>(
     ensures stands { OnOk result (Stands context.now board.new.laid frames.new.items) }
     ensures keeps { Keeps board.old board.new }
     ensures quiet { board.old.notes ≡ false → IsOk result }
-    ensures shuffled { HasShuffled (D.dealing dealer.old) (D.state dealer.old) (D.state dealer.new) }
+    ensures shuffled { ShuffledBy D.dealing D.state dealer.old dealer.new }
     ensures dealing { D.dealing dealer.new ≡ D.dealing dealer.old }
 {
     scope.rebind(bind);
@@ -478,7 +478,7 @@ fn do_inside<D: Dealer>(
     ensures stands { OnOk result (Stands context.now board.new.laid frames.new.items) }
     ensures keeps { Keeps board.old board.new }
     ensures quiet { board.old.notes ≡ false → IsOk result }
-    ensures shuffled { HasShuffled (D.dealing dealer.old) (D.state dealer.old) (D.state dealer.new) }
+    ensures shuffled { ShuffledBy D.dealing D.state dealer.old dealer.new }
     ensures dealing { D.dealing dealer.new ≡ D.dealing dealer.old }
 {
     match code {

@@ -20,7 +20,7 @@ ghost use Rattle.rc_board.specs.Undo.{Keeps};
 ghost use Rattle.rc_code.specs.Meaning.{effects_in};
 ghost use Rattle.rc_code.specs.Seen.{list_seen};
 ghost use Rattle.rc_code.specs.Serves.{AreSimple};
-ghost use Rattle.rc_rules.specs.Dealer.{HasShuffled};
+ghost use Rattle.rc_rules.specs.Dealer.{ShuffledBy};
 
 use crate::blocks::do_block;
 use crate::scopes::one_more;
@@ -62,7 +62,7 @@ pub fn do_item<D: Dealer>(
     ensures current { OnOk result (IsCurrent about.now.sheet (frames_seen frames.new.items) current) }
     ensures keeps { Keeps board.old board.new }
     ensures quiet { board.old.notes ≡ false → IsOk result }
-    ensures shuffled { HasShuffled (D.dealing dealer.old) (D.state dealer.old) (D.state dealer.new) }
+    ensures shuffled { ShuffledBy D.dealing D.state dealer.old dealer.new }
     ensures dealing { D.dealing dealer.new ≡ D.dealing dealer.old }
 {
     let Some(offer) = alts.get(item.alt as usize) else {
@@ -111,7 +111,7 @@ fn do_here<D: Dealer>(
         (frames_seen frames.new.items) context.now.current) }
     ensures keeps { Keeps board.old board.new }
     ensures quiet { board.old.notes ≡ false → IsOk result }
-    ensures shuffled { HasShuffled (D.dealing dealer.old) (D.state dealer.old) (D.state dealer.new) }
+    ensures shuffled { ShuffledBy D.dealing D.state dealer.old dealer.new }
     ensures dealing { D.dealing dealer.new ≡ D.dealing dealer.old }
 {
     match alt {
@@ -149,7 +149,7 @@ fn do_alt<D: Dealer>(
         (frames_seen frames.new.items) context.now.current) }
     ensures keeps { Keeps board.old board.new }
     ensures quiet { board.old.notes ≡ false → IsOk result }
-    ensures shuffled { HasShuffled (D.dealing dealer.old) (D.state dealer.old) (D.state dealer.new) }
+    ensures shuffled { ShuffledBy D.dealing D.state dealer.old dealer.new }
     ensures dealing { D.dealing dealer.new ≡ D.dealing dealer.old }
 {
     do_here(context, alt, block, spots, board, frames, dealer)
@@ -181,7 +181,7 @@ fn do_inner<D: Dealer>(
         (frames_seen frames.new.items) context.now.current) }
     ensures keeps { Keeps board.old board.new }
     ensures quiet { board.old.notes ≡ false → IsOk result }
-    ensures shuffled { HasShuffled (D.dealing dealer.old) (D.state dealer.old) (D.state dealer.new) }
+    ensures shuffled { ShuffledBy D.dealing D.state dealer.old dealer.new }
     ensures dealing { D.dealing dealer.new ≡ D.dealing dealer.old }
 {
     match alt {
@@ -223,7 +223,7 @@ fn do_any<D: Dealer>(
         (frames_seen frames.new.items) context.now.current) }
     ensures keeps { Keeps board.old board.new }
     ensures quiet { board.old.notes ≡ false → IsOk result }
-    ensures shuffled { HasShuffled (D.dealing dealer.old) (D.state dealer.old) (D.state dealer.new) }
+    ensures shuffled { ShuffledBy D.dealing D.state dealer.old dealer.new }
     ensures dealing { D.dealing dealer.new ≡ D.dealing dealer.old }
 {
     match spots.split_first() {
@@ -269,7 +269,7 @@ fn do_member<D: Dealer>(
         (frames_seen frames.new.items) context.now.current) }
     ensures keeps { Keeps board.old board.new }
     ensures quiet { board.old.notes ≡ false → IsOk result }
-    ensures shuffled { HasShuffled (D.dealing dealer.old) (D.state dealer.old) (D.state dealer.new) }
+    ensures shuffled { ShuffledBy D.dealing D.state dealer.old dealer.new }
     ensures dealing { D.dealing dealer.new ≡ D.dealing dealer.old }
 {
     let mut room = Cards::new();
@@ -309,7 +309,7 @@ fn do_bound<D: Dealer>(
         (frames_seen frames.new.items) context.now.current) }
     ensures keeps { Keeps board.old board.new }
     ensures quiet { board.old.notes ≡ false → IsOk result }
-    ensures shuffled { HasShuffled (D.dealing dealer.old) (D.state dealer.old) (D.state dealer.new) }
+    ensures shuffled { ShuffledBy D.dealing D.state dealer.old dealer.new }
     ensures dealing { D.dealing dealer.new ≡ D.dealing dealer.old }
 {
     let scope = one_more(context.scope, bind);

@@ -9,7 +9,7 @@ ghost use Rattle.rc_state.specs.Context.{Stands};
 ghost use Rattle.rc_state.specs.Under.{IsEffectUnder};
 ghost use Rattle.rc_state.specs.Point.{point_of};
 ghost use Rattle.rc_board.specs.Undo.{Keeps};
-ghost use Rattle.rc_rules.specs.Dealer.{HasShuffled};
+ghost use Rattle.rc_rules.specs.Dealer.{ShuffledBy};
 
 use rc_ast::Loc;
 use rc_board::Board;
@@ -35,7 +35,7 @@ pub fn shuffle<D: Dealer>(
         ≡ point_of board.new.laid frames.now.items (D.state dealer.new)) }
     ensures keeps { Keeps board.old board.new }
     ensures quiet { board.old.notes ≡ false → IsOk result }
-    ensures shuffled { HasShuffled (D.dealing dealer.old) (D.state dealer.old) (D.state dealer.new) }
+    ensures shuffled { ShuffledBy D.dealing D.state dealer.old dealer.new }
     ensures dealing { D.dealing dealer.new ≡ D.dealing dealer.old }
 {
     let Some(at) = loc_now(context, loc, board.table(), frames) else {
@@ -55,7 +55,7 @@ fn shuffle_at<D: Dealer>(board: &mut Board, at: u16, dealer: &mut D) -> Result<(
     ensures quiet { board.old.notes ≡ false → IsOk result }
     ensures next { D.state dealer.new
         ≡ (D.dealing dealer.old).next (D.state dealer.old) (length (list_at board.old.laid.table at)) }
-    ensures shuffled { HasShuffled (D.dealing dealer.old) (D.state dealer.old) (D.state dealer.new) }
+    ensures shuffled { ShuffledBy D.dealing D.state dealer.old dealer.new }
     ensures dealing { D.dealing dealer.new ≡ D.dealing dealer.old }
 {
     let mut order = places(board.table().list(at).len());

@@ -7,7 +7,7 @@ ghost use Rattle.rc_state.specs.Context.{Stands};
 ghost use Rattle.rc_state.specs.Point.{point_of};
 ghost use Rattle.rc_state.specs.Under.{IsEffectUnder};
 ghost use Rattle.rc_board.specs.Undo.{Keeps};
-ghost use Rattle.rc_rules.specs.Dealer.{HasShuffled};
+ghost use Rattle.rc_rules.specs.Dealer.{ShuffledBy};
 
 use crate::moving::{move_all, move_one};
 use crate::numbers::{change_number, set_number};
@@ -40,7 +40,7 @@ pub fn do_simple<D: Dealer>(
     ensures stands { OnOk result (Stands context.now board.new.laid frames.new.items) }
     ensures keeps { Keeps board.old board.new }
     ensures quiet { board.old.notes ≡ false → IsOk result }
-    ensures shuffled { HasShuffled (D.dealing dealer.old) (D.state dealer.old) (D.state dealer.new) }
+    ensures shuffled { ShuffledBy D.dealing D.state dealer.old dealer.new }
     ensures dealing { D.dealing dealer.new ≡ D.dealing dealer.old }
 {
     match effect {

@@ -8,7 +8,7 @@ ghost use Rattle.rc_play_model.specs.Stop.{stop_of};
 ghost use Rattle.rc_play_model.specs.Decision.{choose};
 ghost use Rattle.rc_rules.specs.Bounds.{bounds_seen};
 ghost use Rattle.rc_rules.specs.Control.{control_seen, stop_seen};
-ghost use Rattle.rc_rules.specs.Dealer.{HasShuffled};
+ghost use Rattle.rc_rules.specs.Dealer.{ShuffledBy};
 ghost use Rattle.rc_rules.specs.Machine.{StandsAtDecision, StandsWhereItStops, bounds_here, menu_here};
 ghost use Rattle.rc_rules.specs.Menu.{menu_seen};
 ghost use Rattle.rc_stand.specs.Flat.{config_of, flat_from};
@@ -118,7 +118,7 @@ impl Machine for FlatMachine {
         ensures stands { IfOk result (λ stop. StandsWhereItStops self.old.about (stop_seen stop) self.new.config) }
         ensures fresh { OnOk result (self.old.spent ≡ false) }
         ensures spent { self.new.spent ≡ is_err result }
-        ensures shuffled { OnErr result (HasShuffled (D.dealing dealer.old) (D.state dealer.old) (D.state dealer.new)) }
+        ensures shuffled { OnErr result (ShuffledBy D.dealing D.state dealer.old dealer.new) }
         ensures idle { self.old.spent ≡ true → D.state dealer.new ≡ D.state dealer.old }
         ensures same { self.new.about ≡ self.old.about }
         ensures dealing { D.dealing dealer.new ≡ D.dealing dealer.old }
@@ -179,7 +179,7 @@ impl Machine for FlatMachine {
             ≡ goes (D.state dealer.new) self.new.config) }
         ensures fresh { OnOk result (self.old.spent ≡ false) }
         ensures spent { self.new.spent ≡ is_err result }
-        ensures shuffled { OnErr result (HasShuffled (D.dealing dealer.old) (D.state dealer.old) (D.state dealer.new)) }
+        ensures shuffled { OnErr result (ShuffledBy D.dealing D.state dealer.old dealer.new) }
         ensures idle { self.old.spent ≡ true → D.state dealer.new ≡ D.state dealer.old }
         ensures same { self.new.about ≡ self.old.about }
         ensures dealing { D.dealing dealer.new ≡ D.dealing dealer.old }

@@ -9,7 +9,7 @@ ghost use Rattle.rc_code.specs.Seen.{block_seen, list_seen};
 ghost use Rattle.rc_board.specs.Undo.{Keeps};
 ghost use Rattle.rc_code.specs.Serves.{AreSimple, Serves};
 ghost use Rattle.rc_stand.specs.State.{IsReady, config_at};
-ghost use Rattle.rc_rules.specs.Dealer.{HasShuffled};
+ghost use Rattle.rc_rules.specs.Dealer.{ShuffledBy};
 
 use rc_asked::Offer;
 use rc_code::{Block, Instruction};
@@ -38,7 +38,7 @@ pub fn apply<D: Dealer>(
     ensures ready { OnOk result (IsReady about.now (list_seen code.now) state.new) }
     ensures keeps { Keeps state.old.board state.new.board }
     ensures quiet { state.old.board.notes ≡ false → IsOk result }
-    ensures shuffled { HasShuffled (D.dealing dealer.old) (D.state dealer.old) (D.state dealer.new) }
+    ensures shuffled { ShuffledBy D.dealing D.state dealer.old dealer.new }
     ensures dealing { D.dealing dealer.new ≡ D.dealing dealer.old }
 {
     let choice = choice_there(code, state.place.next());
@@ -78,7 +78,7 @@ fn take_item<D: Dealer>(
     ensures ready { OnOk result (IsReady about.now (list_seen code.now) state.new) }
     ensures keeps { Keeps state.old.board state.new.board }
     ensures quiet { state.old.board.notes ≡ false → IsOk result }
-    ensures shuffled { HasShuffled (D.dealing dealer.old) (D.state dealer.old) (D.state dealer.new) }
+    ensures shuffled { ShuffledBy D.dealing D.state dealer.old dealer.new }
     ensures dealing { D.dealing dealer.new ≡ D.dealing dealer.old }
 {
     // what an about keeps

@@ -4,7 +4,7 @@ ghost use Rattle.rc_play_model.specs.Step.{goes};
 ghost use Rattle.rc_play_model.specs.Stop.{stop_of};
 ghost use Rattle.rc_play_model.specs.Decision.{at_site, choose};
 ghost use Rattle.rc_rules.specs.Control.{control_seen, stop_seen};
-ghost use Rattle.rc_rules.specs.Dealer.{HasShuffled};
+ghost use Rattle.rc_rules.specs.Dealer.{ShuffledBy};
 ghost use Rattle.rc_rules.specs.Machine.{CanDecide, StandsAtDecision, StandsWhereItStops, menu_here};
 ghost use Rattle.rc_code.specs.Seen.{code_seen};
 ghost use Rattle.rc_code.specs.Stands.{StandsFor};
@@ -119,7 +119,7 @@ impl Machine for HomeMachine {
         ensures stands { IfOk result (λ stop. StandsWhereItStops self.old.about (stop_seen stop) self.new.config) }
         ensures fresh { OnOk result (self.old.spent ≡ false) }
         ensures spent { self.new.spent ≡ is_err result }
-        ensures shuffled { OnErr result (HasShuffled (D.dealing dealer.old) (D.state dealer.old) (D.state dealer.new)) }
+        ensures shuffled { OnErr result (ShuffledBy D.dealing D.state dealer.old dealer.new) }
         ensures idle { self.old.spent ≡ true → D.state dealer.new ≡ D.state dealer.old }
         ensures same { self.new.about ≡ self.old.about }
         ensures dealing { D.dealing dealer.new ≡ D.dealing dealer.old }
@@ -149,7 +149,7 @@ impl Machine for HomeMachine {
             ≡ goes (D.state dealer.new) self.new.config) }
         ensures fresh { OnOk result (self.old.spent ≡ false) }
         ensures spent { self.new.spent ≡ is_err result }
-        ensures shuffled { OnErr result (HasShuffled (D.dealing dealer.old) (D.state dealer.old) (D.state dealer.new)) }
+        ensures shuffled { OnErr result (ShuffledBy D.dealing D.state dealer.old dealer.new) }
         ensures idle { self.old.spent ≡ true → D.state dealer.new ≡ D.state dealer.old }
         ensures same { self.new.about ≡ self.old.about }
         ensures dealing { D.dealing dealer.new ≡ D.dealing dealer.old }

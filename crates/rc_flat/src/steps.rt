@@ -8,7 +8,7 @@ ghost use Rattle.rc_code.specs.Seen.{instruction_seen, list_seen};
 ghost use Rattle.rc_board.specs.Undo.{Keeps};
 ghost use Rattle.rc_code.specs.Serves.{Serves};
 ghost use Rattle.rc_stand.specs.State.{KeepsMenu, IsReady, config_at, next_seen, LeadsTo};
-ghost use Rattle.rc_rules.specs.Dealer.{HasShuffled};
+ghost use Rattle.rc_rules.specs.Dealer.{ShuffledBy};
 
 use rc_asked::Offer;
 use rc_code::Instruction;
@@ -39,7 +39,7 @@ fn do_next<D: Dealer>(
     ensures ready { OnOk result (IsReady about.now (list_seen code.now) state.new) }
     ensures keeps { Keeps state.old.board state.new.board }
     ensures quiet { state.old.board.notes ≡ false → IsOk result }
-    ensures shuffled { HasShuffled (D.dealing dealer.old) (D.state dealer.old) (D.state dealer.new) }
+    ensures shuffled { ShuffledBy D.dealing D.state dealer.old dealer.new }
     ensures dealing { D.dealing dealer.new ≡ D.dealing dealer.old }
 {
     let next = state.place.next() + 1;
@@ -141,7 +141,7 @@ pub fn one_step<D: Dealer>(
     ensures ready { OnOk result (IsReady about.now (list_seen code.now) state.new) }
     ensures keeps { Keeps state.old.board state.new.board }
     ensures quiet { state.old.board.notes ≡ false → IsOk result }
-    ensures shuffled { HasShuffled (D.dealing dealer.old) (D.state dealer.old) (D.state dealer.new) }
+    ensures shuffled { ShuffledBy D.dealing D.state dealer.old dealer.new }
     ensures dealing { D.dealing dealer.new ≡ D.dealing dealer.old }
     ensures kept { IfOk result (λ stop. IsSome stop → D.state dealer.new ≡ D.state dealer.old) }
 {

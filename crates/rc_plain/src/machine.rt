@@ -8,7 +8,7 @@ ghost use Rattle.rc_play_model.specs.Decision.{at_site, choose};
 ghost use Rattle.rc_play_model.specs.Table.{opening};
 ghost use Rattle.rc_rules.specs.Bounds.{bounds_seen};
 ghost use Rattle.rc_rules.specs.Control.{control_seen, stop_seen};
-ghost use Rattle.rc_rules.specs.Dealer.{HasShuffled};
+ghost use Rattle.rc_rules.specs.Dealer.{ShuffledBy};
 ghost use Rattle.rc_rules.specs.Machine.{StandsAtDecision, StandsWhereItStops, bounds_here, menu_here, CanDecide};
 ghost use Rattle.rc_plain.specs.Plain.{config_of};
 
@@ -203,7 +203,7 @@ impl Machine for PlainMachine {
         ensures stands { IfOk result (λ stop. StandsWhereItStops self.old.about (stop_seen stop) (config_of self.new)) }
         ensures fresh { OnOk result (false ≡ false) }
         ensures spent { false ≡ is_err result }
-        ensures shuffled { OnErr result (HasShuffled (D.dealing dealer.old) (D.state dealer.old) (D.state dealer.new)) }
+        ensures shuffled { OnErr result (ShuffledBy D.dealing D.state dealer.old dealer.new) }
         ensures idle { false ≡ true → D.state dealer.new ≡ D.state dealer.old }
         ensures same { self.new.about ≡ self.old.about }
         ensures dealing { D.dealing dealer.new ≡ D.dealing dealer.old }
@@ -240,7 +240,7 @@ impl Machine for PlainMachine {
             ≡ goes (D.state dealer.new) (config_of self.new)) }
         ensures fresh { OnOk result (false ≡ false) }
         ensures spent { false ≡ is_err result }
-        ensures shuffled { OnErr result (HasShuffled (D.dealing dealer.old) (D.state dealer.old) (D.state dealer.new)) }
+        ensures shuffled { OnErr result (ShuffledBy D.dealing D.state dealer.old dealer.new) }
         ensures idle { false ≡ true → D.state dealer.new ≡ D.state dealer.old }
         ensures same { self.new.about ≡ self.old.about }
         ensures dealing { D.dealing dealer.new ≡ D.dealing dealer.old }

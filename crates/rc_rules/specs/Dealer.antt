@@ -11,6 +11,10 @@ state_behind dealing state (size ∷ sizes) = state_behind dealing (dealing.next
 abbrev pub HasShuffled : Dealing ℕ → ℕ → ℕ → Type 0
 HasShuffled dealing before after = (sizes : List ℕ) × (after ≡ state_behind dealing before sizes)
 
+-- a dealer shuffled some lists, by what its trait has it deal and where it stands
+abbrev pub ShuffledBy : {D : Type 0} → (D → Dealing ℕ) → (D → ℕ) → D → D → Type 0
+ShuffledBy dealing state before after = HasShuffled (dealing before) (state before) (state after)
+
 -- the seed of the shuffles of a match, and how many there were
 pub record Dealt : Type 0 where
   pub deal : ℕ

@@ -7,7 +7,7 @@ ghost use Rattle.rc_play_model.specs.Stop.{stop_of};
 ghost use Rattle.rc_play_model.specs.Decision.{choose};
 ghost use Rattle.rc_play_model.specs.Scores.{scores_of};
 ghost use Rattle.rc_rules.specs.Control.{control_seen, stop_seen};
-ghost use Rattle.rc_rules.specs.Dealer.{HasShuffled};
+ghost use Rattle.rc_rules.specs.Dealer.{ShuffledBy};
 ghost use Rattle.rc_rules.specs.Bounds.{bounds_seen};
 ghost use Rattle.rc_rules.specs.Menu.{menu_seen};
 ghost use Rattle.rc_rules.specs.Machine.{StandsAtDecision, StandsWhereItStops, bounds_here, menu_here};
@@ -38,7 +38,7 @@ pub trait Machine {
         ensures stands { IfOk result (λ stop. StandsWhereItStops (about self.old) (stop_seen stop) (config self.new)) }
         ensures fresh { OnOk result (spent self.old ≡ false) }
         ensures spent { spent self.new ≡ is_err result }
-        ensures shuffled { OnErr result (HasShuffled (D.dealing dealer.old) (D.state dealer.old) (D.state dealer.new)) }
+        ensures shuffled { OnErr result (ShuffledBy D.dealing D.state dealer.old dealer.new) }
         ensures idle { spent self.old ≡ true → D.state dealer.new ≡ D.state dealer.old }
         ensures same { about self.new ≡ about self.old }
         ensures dealing { D.dealing dealer.new ≡ D.dealing dealer.old };
@@ -73,7 +73,7 @@ pub trait Machine {
             ≡ goes (D.state dealer.new) (config self.new)) }
         ensures fresh { OnOk result (spent self.old ≡ false) }
         ensures spent { spent self.new ≡ is_err result }
-        ensures shuffled { OnErr result (HasShuffled (D.dealing dealer.old) (D.state dealer.old) (D.state dealer.new)) }
+        ensures shuffled { OnErr result (ShuffledBy D.dealing D.state dealer.old dealer.new) }
         ensures idle { spent self.old ≡ true → D.state dealer.new ≡ D.state dealer.old }
         ensures same { about self.new ≡ about self.old }
         ensures dealing { D.dealing dealer.new ≡ D.dealing dealer.old };
