@@ -11,7 +11,7 @@ ghost use Rattle.rc_value.specs.Cards.{value_seen, values_seen};
 ghost use Rattle.rc_value.specs.Seen.{bind_seen};
 ghost use Rattle.rc_state.specs.Point.{point_of};
 ghost use Rattle.rc_state.specs.Under.{IsCollUnder, IsEffectUnder, AreEffectsUnder};
-ghost use Rattle.rc_state.specs.Context.{scene_in, Stands};
+ghost use Rattle.rc_state.specs.Context.{scene_in, Stands, in_scope};
 ghost use Rattle.rc_code.specs.Meaning.{effects_in, first_effects, passed_over};
 ghost use Rattle.rc_code.specs.Seen.{instruction_seen, list_seen};
 ghost use Rattle.rc_code.specs.Serves.{IsSimple, AreSimple};
@@ -89,8 +89,7 @@ pub fn do_block<D: Dealer>(
     dealer: &mut D,
 ) -> Result<(), Memory>
     requires stands { Stands context.now board.old.laid frames.old.items }
-    requires well { AreEffectsUnder context.now.about.now.sheet context.now.scope.now
-        (effects_in (list_seen code.now)) }
+    requires well { in_scope context.now AreEffectsUnder (effects_in (list_seen code.now)) }
     requires simple { AreSimple (list_seen code.now) }
     ensures does { OnOk result (does context.now.about.now (D.dealing dealer.old) context.now.scope.now
         (effects_in (list_seen code.now))
@@ -125,7 +124,7 @@ fn do_first<'c, D: Dealer>(
     dealer: &mut D,
 ) -> Result<&'c [Instruction], Memory>
     requires stands { Stands context.now board.old.laid frames.old.items }
-    requires well { AreEffectsUnder context.now.about.now.sheet context.now.scope.now
+    requires well { in_scope context.now AreEffectsUnder
         (first_effects (instruction_seen first.now) (list_seen behind.now)) }
     requires simple { IsSimple (instruction_seen first.now) }
     requires inside { AreSimple (list_seen behind.now) }
@@ -195,8 +194,7 @@ fn do_if<D: Dealer>(
     dealer: &mut D,
 ) -> Result<(), Memory>
     requires stands { Stands context.now board.old.laid frames.old.items }
-    requires well { IsEffectUnder context.now.about.now.sheet context.now.scope.now
-        (when test.now (effects_in (list_seen inside.now))) }
+    requires well { in_scope context.now IsEffectUnder (when test.now (effects_in (list_seen inside.now))) }
     requires simple { AreSimple (list_seen inside.now) }
     ensures does { OnOk result (does_one context.now.about.now (D.dealing dealer.old) context.now.scope.now
         (when test.now (effects_in (list_seen inside.now)))
@@ -226,7 +224,7 @@ fn repeat<D: Dealer>(
     dealer: &mut D,
 ) -> Result<(), Memory>
     requires stands { Stands context.now board.old.laid frames.old.items }
-    requires well { IsEffectUnder context.now.about.now.sheet context.now.scope.now
+    requires well { in_scope context.now IsEffectUnder
         (repeat_of (int_seen count.now) (effects_in (list_seen inside.now))) }
     requires simple { AreSimple (list_seen inside.now) }
     ensures does { OnOk result (does_one context.now.about.now (D.dealing dealer.old) context.now.scope.now
@@ -270,7 +268,7 @@ fn for_each<D: Dealer>(
     dealer: &mut D,
 ) -> Result<(), Memory>
     requires stands { Stands context.now board.old.laid frames.old.items }
-    requires well { IsEffectUnder context.now.about.now.sheet context.now.scope.now
+    requires well { in_scope context.now IsEffectUnder
         (for_each_of (domain_seen domain.now) bound (effects_in (list_seen inside.now))) }
     requires simple { AreSimple (list_seen inside.now) }
     ensures does { OnOk result (does_one context.now.about.now (D.dealing dealer.old) context.now.scope.now
@@ -348,7 +346,7 @@ fn for_cards<D: Dealer>(
     dealer: &mut D,
 ) -> Result<(), Memory>
     requires stands { Stands context.now board.old.laid frames.old.items }
-    requires cards { IsCollUnder context.now.about.now.sheet context.now.scope.now (coll_seen cards.now) }
+    requires cards { in_scope context.now IsCollUnder (coll_seen cards.now) }
     requires room { length context.now.scope.now < 5 }
     requires well { (member : PureBind CardValue)
         → AreEffectsUnder context.now.about.now.sheet (context.now.scope.now ++ member ∷ [])
@@ -468,8 +466,7 @@ fn do_inside<D: Dealer>(
     dealer: &mut D,
 ) -> Result<(), Memory>
     requires stands { Stands context.now board.old.laid frames.old.items }
-    requires well { AreEffectsUnder context.now.about.now.sheet context.now.scope.now
-        (effects_in (list_seen code.now)) }
+    requires well { in_scope context.now AreEffectsUnder (effects_in (list_seen code.now)) }
     requires simple { AreSimple (list_seen code.now) }
     ensures does { OnOk result (does context.now.about.now (D.dealing dealer.old) context.now.scope.now
         (effects_in (list_seen code.now))

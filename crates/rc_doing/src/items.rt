@@ -15,7 +15,7 @@ ghost use Rattle.rc_value.specs.Seen.{bind_seen};
 ghost use Rattle.rc_state.specs.Point.{point_of};
 ghost use Rattle.rc_state.specs.Under.{IsAltUnder, IsDomainUnder};
 ghost use Rattle.rc_state.specs.Bindings.{AreAltsOutside};
-ghost use Rattle.rc_state.specs.Context.{scene_in, Stands};
+ghost use Rattle.rc_state.specs.Context.{scene_in, Stands, in_scope};
 ghost use Rattle.rc_board.specs.Undo.{Keeps};
 ghost use Rattle.rc_code.specs.Meaning.{effects_in};
 ghost use Rattle.rc_code.specs.Seen.{list_seen};
@@ -99,7 +99,7 @@ fn do_here<D: Dealer>(
     dealer: &mut D,
 ) -> Result<(), Memory>
     requires stands { Stands context.now board.old.laid frames.old.items }
-    requires well { IsAltUnder context.now.about.now.sheet context.now.scope.now (alt_seen alt.now) }
+    requires well { in_scope context.now IsAltUnder (alt_seen alt.now) }
     requires block { effects_in (list_seen block.now) ≡ effects_of (alt_seen alt.now) }
     requires simple { AreSimple (list_seen block.now) }
     ensures does { OnOk result (does context.now.about.now (D.dealing dealer.old)
@@ -137,7 +137,7 @@ fn do_alt<D: Dealer>(
     dealer: &mut D,
 ) -> Result<(), Memory>
     requires stands { Stands context.now board.old.laid frames.old.items }
-    requires well { IsAltUnder context.now.about.now.sheet context.now.scope.now (alt_seen alt.now) }
+    requires well { in_scope context.now IsAltUnder (alt_seen alt.now) }
     requires block { effects_in (list_seen block.now) ≡ effects_of (alt_seen alt.now) }
     requires simple { AreSimple (list_seen block.now) }
     ensures does { OnOk result (does context.now.about.now (D.dealing dealer.old)
@@ -169,7 +169,7 @@ fn do_inner<D: Dealer>(
     dealer: &mut D,
 ) -> Result<(), Memory>
     requires stands { Stands context.now board.old.laid frames.old.items }
-    requires well { IsAltUnder context.now.about.now.sheet context.now.scope.now (alt_seen alt.now) }
+    requires well { in_scope context.now IsAltUnder (alt_seen alt.now) }
     requires block { effects_in (list_seen block.now) ≡ effects_of (alt_seen alt.now) }
     requires simple { AreSimple (list_seen block.now) }
     ensures does { OnOk result (does context.now.about.now (D.dealing dealer.old)
@@ -206,11 +206,11 @@ fn do_any<D: Dealer>(
     dealer: &mut D,
 ) -> Result<(), Memory>
     requires stands { Stands context.now board.old.laid frames.old.items }
-    requires domain { IsDomainUnder context.now.about.now.sheet context.now.scope.now (domain_seen domain.now) }
+    requires domain { in_scope context.now IsDomainUnder (domain_seen domain.now) }
     requires room { length context.now.scope.now < 5 }
     requires well { (member : PureBind CardValue)
         → IsAltUnder context.now.about.now.sheet (context.now.scope.now ++ member ∷ []) (alt_seen inner.now) }
-    requires bare { IsAltUnder context.now.about.now.sheet context.now.scope.now (alt_seen inner.now) }
+    requires bare { in_scope context.now IsAltUnder (alt_seen inner.now) }
     requires block { effects_in (list_seen block.now) ≡ effects_of (alt_seen inner.now) }
     requires simple { AreSimple (list_seen block.now) }
     ensures does { OnOk result (does context.now.about.now (D.dealing dealer.old)
@@ -253,7 +253,7 @@ fn do_member<D: Dealer>(
     dealer: &mut D,
 ) -> Result<(), Memory>
     requires stands { Stands context.now board.old.laid frames.old.items }
-    requires domain { IsDomainUnder context.now.about.now.sheet context.now.scope.now (domain_seen domain.now) }
+    requires domain { in_scope context.now IsDomainUnder (domain_seen domain.now) }
     requires room { length context.now.scope.now < 5 }
     requires well { (member : PureBind CardValue)
         → IsAltUnder context.now.about.now.sheet (context.now.scope.now ++ member ∷ []) (alt_seen inner.now) }

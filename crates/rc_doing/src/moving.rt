@@ -11,7 +11,7 @@ ghost use Rattle.rc_ast.specs.Effects.{end_seen};
 ghost use Rattle.rc_table.specs.Laid.{relaid};
 ghost use Rattle.rc_table.specs.Runs.{put_each};
 ghost use Rattle.rc_value.specs.Cards.{value_seen, values_seen};
-ghost use Rattle.rc_state.specs.Context.{scene_in, Stands};
+ghost use Rattle.rc_state.specs.Context.{scene_in, Stands, in_scope};
 ghost use Rattle.rc_state.specs.Under.{IsCollUnder, IsEffectUnder};
 ghost use Rattle.rc_state.specs.Leads.{LeadsTo};
 ghost use Rattle.rc_board.specs.Undo.{Keeps};
@@ -39,8 +39,7 @@ pub fn move_one(
     frames: &Frames,
 ) -> Result<(), Memory>
     requires stands { Stands context.now board.old.laid frames.now.items }
-    requires well { IsEffectUnder context.now.about.now.sheet context.now.scope.now
-        (move (card_seen card.now) (end_seen end) (loc_seen loc.now)) }
+    requires well { in_scope context.now IsEffectUnder (move (card_seen card.now) (end_seen end) (loc_seen loc.now)) }
     ensures leads { OnOk result (LeadsTo context.now
         (move (card_seen card.now) (end_seen end)
         (loc_seen loc.now)) board.old.laid frames.now.items board.new.laid frames.now.items) }
@@ -66,7 +65,7 @@ pub fn move_all(
     frames: &Frames,
 ) -> Result<(), Memory>
     requires stands { Stands context.now board.old.laid frames.now.items }
-    requires well { IsEffectUnder context.now.about.now.sheet context.now.scope.now
+    requires well { in_scope context.now IsEffectUnder
         (move_all_of (coll_seen cards.now) (end_seen end) (loc_seen loc.now)) }
     ensures leads { OnOk result (LeadsTo context.now
         (move_all_of (coll_seen cards.now) (end_seen end)
@@ -94,7 +93,7 @@ fn put_some(
     frames: &Frames,
 ) -> Result<(), Memory>
     requires stands { Stands context.now board.old.laid frames.now.items }
-    requires well { IsCollUnder context.now.about.now.sheet context.now.scope.now (coll_seen cards.now) }
+    requires well { in_scope context.now IsCollUnder (coll_seen cards.now) }
     requires holds { HoldsCards board.old.laid.shape at }
     ensures leads { OnOk result (board.new.laid
         ≡ relaid board.old.laid (fold (move_card board.old.laid.shape (end_seen end) at) board.old.laid.table
@@ -121,7 +120,7 @@ fn put_many(
     frames: &Frames,
 ) -> Result<(), Memory>
     requires stands { Stands context.now board.old.laid frames.now.items }
-    requires well { IsCollUnder context.now.about.now.sheet context.now.scope.now (coll_seen cards.now) }
+    requires well { in_scope context.now IsCollUnder (coll_seen cards.now) }
     requires holds { HoldsCards board.old.laid.shape at }
     ensures leads { OnOk result (board.new.laid
         ≡ relaid board.old.laid (fold (move_card board.old.laid.shape (end_seen end) at) board.old.laid.table

@@ -3,7 +3,7 @@ ghost use Rattle.std.specs.Prelude.{◌≡◌, false, OnOk, IsOk};
 ghost use Rattle.rc_play_model.specs.Effects.{does_one};
 ghost use Rattle.rc_ast.specs.Effects.{effect_seen};
 ghost use Rattle.rc_code.specs.Serves.{HoldsNone};
-ghost use Rattle.rc_state.specs.Context.{Stands};
+ghost use Rattle.rc_state.specs.Context.{Stands, in_scope};
 ghost use Rattle.rc_state.specs.Point.{point_of};
 ghost use Rattle.rc_state.specs.Under.{IsEffectUnder};
 ghost use Rattle.rc_board.specs.Undo.{Keeps};
@@ -31,7 +31,7 @@ pub fn do_simple<D: Dealer>(
     dealer: &mut D,
 ) -> Result<(), Memory>
     requires stands { Stands context.now board.old.laid frames.old.items }
-    requires well { IsEffectUnder context.now.about.now.sheet context.now.scope.now (effect_seen effect.now) }
+    requires well { in_scope context.now IsEffectUnder (effect_seen effect.now) }
     requires simple { HoldsNone (effect_seen effect.now) }
     ensures does { OnOk result (does_one context.now.about.now (D.dealing dealer.old) context.now.scope.now
         (effect_seen effect.now)

@@ -12,7 +12,7 @@ ghost use Rattle.rc_value.specs.Cards.{value_seen, values_seen};
 ghost use Rattle.rc_value.specs.Seen.{bind_seen};
 ghost use Rattle.rc_state.specs.Point.{point_of};
 ghost use Rattle.rc_state.specs.Under.{IsCollUnder, IsEffectUnder, AreEffectsUnder};
-ghost use Rattle.rc_state.specs.Context.{scene_in, Stands};
+ghost use Rattle.rc_state.specs.Context.{scene_in, Stands, in_scope};
 
 use crate::everyone::{set_all, set_for_each};
 use crate::moving::{move_all, move_one};
@@ -65,7 +65,7 @@ fn do_effect<D: Dealer>(
     dealer: &mut D,
 )
     requires stands { Stands context.now table.old frames.old.items }
-    requires well { IsEffectUnder context.now.about.now.sheet context.now.scope.now (effect_seen effect.now) }
+    requires well { in_scope context.now IsEffectUnder (effect_seen effect.now) }
     ensures does { does_one context.now.about.now (D.dealing dealer.old) context.now.scope.now (effect_seen effect.now)
         (point_of table.old frames.old.items (D.state dealer.old))
         ≡ point_of table.new frames.new.items (D.state dealer.new) }
@@ -108,8 +108,7 @@ fn do_if<D: Dealer>(
     dealer: &mut D,
 )
     requires stands { Stands context.now table.old frames.old.items }
-    requires well { IsEffectUnder context.now.about.now.sheet context.now.scope.now
-        (when (test_seen test.now) (effects_seen effects.now.items)) }
+    requires well { in_scope context.now IsEffectUnder (when (test_seen test.now) (effects_seen effects.now.items)) }
     ensures does { does_one context.now.about.now (D.dealing dealer.old) context.now.scope.now
         (when (test_seen test.now) (effects_seen effects.now.items))
         (point_of table.old frames.old.items (D.state dealer.old))
@@ -132,7 +131,7 @@ fn repeat<D: Dealer>(
     dealer: &mut D,
 )
     requires stands { Stands context.now table.old frames.old.items }
-    requires well { IsEffectUnder context.now.about.now.sheet context.now.scope.now
+    requires well { in_scope context.now IsEffectUnder
         (repeat_of (int_seen count.now) (effects_seen effects.now.items)) }
     ensures does { does_one context.now.about.now (D.dealing dealer.old) context.now.scope.now
         (repeat_of (int_seen count.now) (effects_seen effects.now.items))
@@ -165,7 +164,7 @@ fn for_each<D: Dealer>(
     dealer: &mut D,
 )
     requires stands { Stands context.now table.old frames.old.items }
-    requires well { IsEffectUnder context.now.about.now.sheet context.now.scope.now
+    requires well { in_scope context.now IsEffectUnder
         (for_each_of (domain_seen domain.now) bound (effects_seen effects.now.items)) }
     ensures does { does_one context.now.about.now (D.dealing dealer.old) context.now.scope.now
         (for_each_of (domain_seen domain.now) bound (effects_seen effects.now.items))
@@ -223,7 +222,7 @@ fn for_cards<D: Dealer>(
     dealer: &mut D,
 )
     requires stands { Stands context.now table.old frames.old.items }
-    requires cards { IsCollUnder context.now.about.now.sheet context.now.scope.now (coll_seen cards.now) }
+    requires cards { in_scope context.now IsCollUnder (coll_seen cards.now) }
     requires room { length context.now.scope.now < 5 }
     requires well { (member : PureBind CardValue)
         → AreEffectsUnder context.now.about.now.sheet (context.now.scope.now ++ member ∷ [])
@@ -256,7 +255,7 @@ fn for_many<D: Dealer>(
     dealer: &mut D,
 )
     requires stands { Stands context.now table.old frames.old.items }
-    requires cards { IsCollUnder context.now.about.now.sheet context.now.scope.now (coll_seen cards.now) }
+    requires cards { in_scope context.now IsCollUnder (coll_seen cards.now) }
     requires room { length context.now.scope.now < 5 }
     requires well { (member : PureBind CardValue)
         → AreEffectsUnder context.now.about.now.sheet (context.now.scope.now ++ member ∷ [])
@@ -350,7 +349,7 @@ pub(crate) fn do_all<D: Dealer>(
     dealer: &mut D,
 )
     requires stands { Stands context.now table.old frames.old.items }
-    requires well { AreEffectsUnder context.now.about.now.sheet context.now.scope.now (effects_seen effects.now.items) }
+    requires well { in_scope context.now AreEffectsUnder (effects_seen effects.now.items) }
     ensures does { does context.now.about.now (D.dealing dealer.old) context.now.scope.now
         (effects_seen effects.now.items)
         (point_of table.old frames.old.items (D.state dealer.old))

@@ -14,7 +14,7 @@ ghost use Rattle.rc_value.specs.Seen.{bind_seen};
 ghost use Rattle.rc_state.specs.Point.{point_of};
 ghost use Rattle.rc_state.specs.Under.{IsAltUnder, IsDomainUnder};
 ghost use Rattle.rc_state.specs.Bindings.{AreAltsOutside};
-ghost use Rattle.rc_state.specs.Context.{scene_in, Stands};
+ghost use Rattle.rc_state.specs.Context.{scene_in, Stands, in_scope};
 
 use crate::effects::do_all;
 use rc_ast::{Alt, Domain};
@@ -69,7 +69,7 @@ fn do_alt<D: Dealer>(
     dealer: &mut D,
 )
     requires stands { Stands context.now table.old frames.old.items }
-    requires well { IsAltUnder context.now.about.now.sheet context.now.scope.now (alt_seen alt.now) }
+    requires well { in_scope context.now IsAltUnder (alt_seen alt.now) }
     ensures does { does context.now.about.now (D.dealing dealer.old)
         (bindings_of (scene_in context.now table.old frames.old.items) context.now.scope.now
         (alt_seen alt.now) spots.now) (effects_of (alt_seen alt.now))
@@ -99,11 +99,11 @@ fn do_any<D: Dealer>(
     dealer: &mut D,
 )
     requires stands { Stands context.now table.old frames.old.items }
-    requires domain { IsDomainUnder context.now.about.now.sheet context.now.scope.now (domain_seen domain.now) }
+    requires domain { in_scope context.now IsDomainUnder (domain_seen domain.now) }
     requires room { length context.now.scope.now < 5 }
     requires well { (member : PureBind CardValue)
         → IsAltUnder context.now.about.now.sheet (context.now.scope.now ++ member ∷ []) (alt_seen inner.now) }
-    requires bare { IsAltUnder context.now.about.now.sheet context.now.scope.now (alt_seen inner.now) }
+    requires bare { in_scope context.now IsAltUnder (alt_seen inner.now) }
     ensures does { does context.now.about.now (D.dealing dealer.old)
         (bindings_of (scene_in context.now table.old frames.old.items) context.now.scope.now
         (any_alt (domain_seen domain.now) 0 (alt_seen inner.now)) spots.now)
@@ -136,7 +136,7 @@ fn do_member<D: Dealer>(
     dealer: &mut D,
 )
     requires stands { Stands context.now table.old frames.old.items }
-    requires domain { IsDomainUnder context.now.about.now.sheet context.now.scope.now (domain_seen domain.now) }
+    requires domain { in_scope context.now IsDomainUnder (domain_seen domain.now) }
     requires room { length context.now.scope.now < 5 }
     requires well { (member : PureBind CardValue)
         → IsAltUnder context.now.about.now.sheet (context.now.scope.now ++ member ∷ []) (alt_seen inner.now) }

@@ -11,7 +11,7 @@ ghost use Rattle.rc_ast.specs.Effects.{end_seen};
 ghost use Rattle.rc_table.specs.Laid.{relaid};
 ghost use Rattle.rc_table.specs.Runs.{put_each};
 ghost use Rattle.rc_value.specs.Cards.{value_seen, values_seen};
-ghost use Rattle.rc_state.specs.Context.{scene_in, Stands};
+ghost use Rattle.rc_state.specs.Context.{scene_in, Stands, in_scope};
 ghost use Rattle.rc_state.specs.Under.{IsCollUnder, IsEffectUnder};
 ghost use Rattle.rc_state.specs.Leads.{LeadsTo};
 
@@ -37,8 +37,7 @@ pub fn move_one(
     frames: &Frames,
 )
     requires stands { Stands context.now table.old frames.now.items }
-    requires well { IsEffectUnder context.now.about.now.sheet context.now.scope.now
-        (move (card_seen card.now) (end_seen end) (loc_seen loc.now)) }
+    requires well { in_scope context.now IsEffectUnder (move (card_seen card.now) (end_seen end) (loc_seen loc.now)) }
     ensures leads { LeadsTo context.now
         (move (card_seen card.now) (end_seen end)
         (loc_seen loc.now)) table.old frames.now.items table.new frames.now.items }
@@ -63,7 +62,7 @@ pub fn move_all(
     frames: &Frames,
 )
     requires stands { Stands context.now table.old frames.now.items }
-    requires well { IsEffectUnder context.now.about.now.sheet context.now.scope.now
+    requires well { in_scope context.now IsEffectUnder
         (move_all_of (coll_seen cards.now) (end_seen end) (loc_seen loc.now)) }
     ensures leads { LeadsTo context.now
         (move_all_of (coll_seen cards.now) (end_seen end)
@@ -90,7 +89,7 @@ fn put_some(
     frames: &Frames,
 )
     requires stands { Stands context.now table.old frames.now.items }
-    requires well { IsCollUnder context.now.about.now.sheet context.now.scope.now (coll_seen cards.now) }
+    requires well { in_scope context.now IsCollUnder (coll_seen cards.now) }
     requires holds { HoldsCards table.old.shape at }
     ensures { table.new ≡ relaid table.old (fold (move_card table.old.shape (end_seen end) at) table.old.table
         (coll_value (scene_in context.now table.old frames.now.items) context.now.scope.now (coll_seen cards.now))) }
@@ -113,7 +112,7 @@ fn put_many(
     frames: &Frames,
 )
     requires stands { Stands context.now table.old frames.now.items }
-    requires well { IsCollUnder context.now.about.now.sheet context.now.scope.now (coll_seen cards.now) }
+    requires well { in_scope context.now IsCollUnder (coll_seen cards.now) }
     requires holds { HoldsCards table.old.shape at }
     ensures { table.new ≡ relaid table.old (fold (move_card table.old.shape (end_seen end) at) table.old.table
         (coll_value (scene_in context.now table.old frames.now.items) context.now.scope.now (coll_seen cards.now))) }

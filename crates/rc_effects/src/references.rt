@@ -9,7 +9,7 @@ ghost use Rattle.rc_ast.specs.Effects.{end_seen};
 ghost use Rattle.rc_play_model.specs.Scene.{id_of as id_in};
 ghost use Rattle.rc_table.specs.Laid.{relaid};
 ghost use Rattle.rc_value.specs.Cards.{value_seen};
-ghost use Rattle.rc_state.specs.Context.{Stands};
+ghost use Rattle.rc_state.specs.Context.{Stands, in_scope};
 ghost use Rattle.rc_state.specs.Under.{IsEffectUnder};
 ghost use Rattle.rc_state.specs.Leads.{LeadsTo};
 
@@ -29,7 +29,7 @@ pub fn remember(
     frames: &Frames,
 )
     requires stands { Stands context.now table.old frames.now.items }
-    requires well { IsEffectUnder context.now.about.now.sheet context.now.scope.now
+    requires well { in_scope context.now IsEffectUnder
         (remember_of (card_seen card.now) (end_seen end) (loc_seen loc.now)) }
     ensures leads { LeadsTo context.now
         (remember_of (card_seen card.now) (end_seen end)
@@ -68,7 +68,7 @@ fn id_of(card: Card) -> u16
 /// Takes a reference with the card's face out of the location in which the reference to it was read.
 pub fn forget(context: &Context, card: &CardExpr, table: &mut Table, frames: &Frames)
     requires stands { Stands context.now table.old frames.now.items }
-    requires well { IsEffectUnder context.now.about.now.sheet context.now.scope.now (forget_of (card_seen card.now)) }
+    requires well { in_scope context.now IsEffectUnder (forget_of (card_seen card.now)) }
     ensures leads { LeadsTo context.now
         (forget_of (card_seen card.now)) table.old frames.now.items table.new frames.now.items }
     ensures stands { Stands context.now table.new frames.now.items }

@@ -2,13 +2,18 @@
 use Rattle.std.specs.Prelude.{◌≡◌, List, All}
 use Rattle.rc_play_model.specs.About.{scene_at}
 use Rattle.rc_play_model.specs.Value.{Scene}
-use Rattle.rc_play_model.specs.Scene.{CardValue}
+use Rattle.rc_play_model.specs.Scene.{CardValue, Vars}
+use Rattle.rc_sheet_model.specs.Sheet.{Sheet}
 use Rattle.rc_play_model.specs.Bound.{IsBindOf}
 use Rattle.rc_table.specs.Laid.{Laid}
 use Rattle.rc_rules.specs.declared.control.Frame.{Frame}
 use Rattle.rc_rules.specs.Control.{frames_seen}
 use Rattle.rc_value.specs.Current.{IsCurrent}
 use Rattle.rc_state.specs.declared.context.Context.{Context}
+
+-- what is said of a sheet and of what its variables stand for, said of a context's
+abbrev pub in_scope {ℓ} : {R : Type ℓ} → Context → (Sheet → Vars → R) → R
+in_scope context said = said context.about.now.sheet context.scope.now
 
 -- what expressions are read in
 abbrev pub scene_in : Context → Laid → List Frame → Scene CardValue

@@ -3,7 +3,7 @@ ghost use Rattle.std.specs.Prelude.{◌≡◌};
 ghost use Rattle.rc_sheet_model.specs.Sheet.{and_of, no_test, test};
 ghost use Rattle.rc_play_model.specs.Value.{test_value};
 ghost use Rattle.rc_asked.specs.Meaning.{atom_meant};
-ghost use Rattle.rc_state.specs.Context.{scene_in, Stands};
+ghost use Rattle.rc_state.specs.Context.{scene_in, Stands, in_scope};
 ghost use Rattle.rc_state.specs.Under.{IsTestUnder};
 
 use crate::context::{Context, scene_now};
@@ -37,7 +37,7 @@ fn both_now(context: &Context, one: &Atom, other: &Atom, table: &Table, frames: 
 #[inline(always)]
 pub fn asked_now(context: &Context, asked: &Asked, table: &Table, frames: &Frames) -> bool
     requires stands { Stands context.now table.now frames.now.items }
-    requires well { IsTestUnder context.now.about.now.sheet context.now.scope.now asked.now }
+    requires well { in_scope context.now IsTestUnder asked.now }
     ensures { result ≡ test_value (scene_in context.now table.now frames.now.items) context.now.scope.now asked.now }
 {
     match asked.flat() {

@@ -8,7 +8,7 @@ ghost use Rattle.rc_ast.specs.Expressions.{coll_seen, domain_seen};
 ghost use Rattle.rc_value.specs.Cards.{values_seen};
 ghost use Rattle.rc_value.specs.Seen.{bind_seen};
 ghost use Rattle.rc_state.specs.Bindings.{member_seen};
-ghost use Rattle.rc_state.specs.Context.{scene_in, Stands};
+ghost use Rattle.rc_state.specs.Context.{scene_in, Stands, in_scope};
 ghost use Rattle.rc_state.specs.Under.{IsCollUnder, IsDomainUnder};
 
 use crate::context::{Context, scene_now};
@@ -48,7 +48,7 @@ pub fn member_at(
     room: &mut Cards,
 ) -> Member
     requires stands { Stands context.now table.now frames.now.items }
-    requires well { IsDomainUnder context.now.about.now.sheet context.now.scope.now (domain_seen domain.now) }
+    requires well { in_scope context.now IsDomainUnder (domain_seen domain.now) }
     requires empty { room.old.items ≡ [] }
     ensures is { member_seen result (values_seen room.new.items)
         ≡ slice_index_or (members (scene_in context.now table.now frames.now.items) context.now.scope.now
@@ -86,7 +86,7 @@ fn card_at(
     room: &mut Cards,
 ) -> Member
     requires stands { Stands context.now table.now frames.now.items }
-    requires well { IsCollUnder context.now.about.now.sheet context.now.scope.now (coll_seen cards.now) }
+    requires well { in_scope context.now IsCollUnder (coll_seen cards.now) }
     requires empty { room.old.items ≡ [] }
     ensures { member_seen result (values_seen room.new.items) ≡ slice_index_or
         (map (λ c. card_bound c) (coll_value (scene_in context.now table.now frames.now.items) context.now.scope.now
@@ -109,7 +109,7 @@ fn group_at(
     group: &mut Cards,
 ) -> Member
     requires stands { Stands context.now table.now frames.now.items }
-    requires well { IsCollUnder context.now.about.now.sheet context.now.scope.now (coll_seen cards.now) }
+    requires well { in_scope context.now IsCollUnder (coll_seen cards.now) }
     ensures { member_seen result (values_seen group.new.items) ≡ slice_index_or
         (map (λ g. group_bound g) (groups_by (scene_in context.now table.now frames.now.items) attr
         (coll_value (scene_in context.now table.now frames.now.items) context.now.scope.now
@@ -142,7 +142,7 @@ pub fn bare_bind_at<'m>(
     frames: &Frames,
 ) -> Option<Bind<'m>>
     requires stands { Stands context.now table.now frames.now.items }
-    requires well { IsDomainUnder context.now.about.now.sheet context.now.scope.now (domain_seen domain.now) }
+    requires well { in_scope context.now IsDomainUnder (domain_seen domain.now) }
     ensures is { IfSome result (λ bind. bind_seen bind
         ≡ slice_index_or (members (scene_in context.now table.now frames.now.items) context.now.scope.now
         (domain_seen domain.now)) spot (player_bound 0)) }

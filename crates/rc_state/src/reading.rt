@@ -8,7 +8,7 @@ ghost use Rattle.rc_ast.specs.Names.{who_seen, loc_seen, num_seen};
 ghost use Rattle.rc_ast.specs.Expressions.{card_seen, coll_seen, int_seen, test_seen};
 ghost use Rattle.rc_value.specs.Cards.{value_seen, values_seen};
 ghost use Rattle.rc_value.specs.Depth.{card_depth, int_depth};
-ghost use Rattle.rc_state.specs.Context.{scene_in, Stands};
+ghost use Rattle.rc_state.specs.Context.{scene_in, Stands, in_scope};
 ghost use Rattle.rc_state.specs.Under.{IsCardUnder, IsCollUnder, IsIntUnder, IsTestUnder};
 ghost use Rattle.rc_state.specs.Leads.{HoldsAs};
 
@@ -25,7 +25,7 @@ use rc_value::{
 #[inline(always)]
 pub fn card_now(context: &Context, expr: &CardExpr, table: &Table, frames: &Frames) -> Option<Card>
     requires stands { Stands context.now table.now frames.now.items }
-    requires well { IsCardUnder context.now.about.now.sheet context.now.scope.now (card_seen expr.now) }
+    requires well { in_scope context.now IsCardUnder (card_seen expr.now) }
     ensures is { option_map value_seen result
         ≡ card_value (scene_in context.now table.now frames.now.items) context.now.scope.now (card_seen expr.now) }
     ensures there { IfSome result (λ card. IsCardOf context.now.about.now.shape (value_seen card)) }
@@ -60,7 +60,7 @@ pub fn cards_now(
     out: &mut Cards,
 )
     requires stands { Stands context.now table.now frames.now.items }
-    requires well { IsCollUnder context.now.about.now.sheet context.now.scope.now (coll_seen expr.now) }
+    requires well { in_scope context.now IsCollUnder (coll_seen expr.now) }
     requires empty { out.old.items ≡ [] }
     ensures is { values_seen out.new.items
         ≡ coll_value (scene_in context.now table.now frames.now.items) context.now.scope.now (coll_seen expr.now) }
@@ -77,7 +77,7 @@ pub fn cards_now(
 #[inline(always)]
 pub fn int_now(context: &Context, expr: &IntExpr, table: &Table, frames: &Frames) -> i64
     requires stands { Stands context.now table.now frames.now.items }
-    requires well { IsIntUnder context.now.about.now.sheet context.now.scope.now (int_seen expr.now) }
+    requires well { in_scope context.now IsIntUnder (int_seen expr.now) }
     ensures is { result ≡ int_value (scene_in context.now table.now frames.now.items) context.now.scope.now
         (int_seen expr.now) }
     ensures clamped { IsWithinClamp result }
@@ -107,7 +107,7 @@ fn found_int(context: &Context, expr: &IntExpr, table: &Table, frames: &Frames) 
 #[inline(always)]
 pub fn test_now(context: &Context, expr: &Test, table: &Table, frames: &Frames) -> bool
     requires stands { Stands context.now table.now frames.now.items }
-    requires well { IsTestUnder context.now.about.now.sheet context.now.scope.now (test_seen expr.now) }
+    requires well { in_scope context.now IsTestUnder (test_seen expr.now) }
     ensures { result ≡ test_value (scene_in context.now table.now frames.now.items) context.now.scope.now
         (test_seen expr.now) }
 {
