@@ -6,6 +6,7 @@ usage: tools/style.py             says what is wrong, and where the record can b
 
 - A crate has no more lines that are wider than 120 columns than tools/style.txt records for it.
 - No function is named by a participle alone, as `taken`, which doesn't say what is taken, but those that are recorded.
+- A crate has no more lemmas that another has proved, under whatever name, than are recorded; tools/statements.py lists them.
 - A file that a comment names is there.
 """
 
@@ -13,17 +14,20 @@ from __future__ import annotations
 
 import re
 import sys
+from collections import Counter
 from collections.abc import Iterable, Iterator
 from dataclasses import dataclass
 from pathlib import Path
 
 from crates import COMMENT, listed, sources
+from statements import said_again
 
 ROOT = Path(__file__).resolve().parent.parent
 RECORD, WIDTH = "tools/style.txt", 120
 HEAD = f"""\
-# Each line: a crate, how many of its lines of code are wider than {WIDTH} columns, how many of its lines of definitions and proofs are, and
-# which of its functions are named by a participle alone. tools/style.py --record writes it. It is only to get lower.
+# Each line: a crate, how many of its lines of code are wider than {WIDTH} columns, how many of its lines of definitions and proofs are,
+# how many of its lemmas are proved elsewhere, and which of its functions are named by a participle alone. tools/style.py --record writes
+# it. It is only to get lower.
 """
 
 FUNCTION = re.compile(r"\bfn ([a-z]+)\b")
@@ -41,10 +45,12 @@ NAMED = re.compile(rf"(?<![\w./-])(?:{FOLDER}[\w./-]*\w|[\w/-]+\.(?:antt|rt)\b)"
 
 @dataclass(frozen=True)
 class Style:
-    """How many lines of a crate are too wide, of code and of definitions and proofs, and its functions that a participle alone names."""
+    """How many lines of a crate are too wide, of code and of definitions and proofs, how many of its lemmas are proved elsewhere, and its
+    functions that a participle alone names."""
 
     code: int = 0
     proofs: int = 0
+    repeats: int = 0
     participles: frozenset[str] = frozenset()
 
 
@@ -53,31 +59,32 @@ def is_participle(name: str) -> bool:
     return name in IRREGULAR or (bool(PARTICIPLE.fullmatch(name)) and name not in NO_PARTICIPLE)
 
 
-def style_of(root: Path, crate: str) -> Style:
-    """The style of a crate's files."""
+def style_of(root: Path, crate: str, repeats: int) -> Style:
+    """The style of a crate's files, of whose lemmas so many are proved elsewhere."""
     wide, names = {".rt": 0, ".antt": 0}, set()
     for file in sources(root / "crates" / crate):
         text = file.read_text("utf-8")
         wide[file.suffix] += sum(len(line) > WIDTH for line in text.splitlines())
         if file.suffix == ".rt":
             names |= {*filter(is_participle, FUNCTION.findall(COMMENT[".rt"].sub("", text)))}
-    return Style(wide[".rt"], wide[".antt"], frozenset(names))
+    return Style(wide[".rt"], wide[".antt"], repeats, frozenset(names))
 
 
 def styles_of(root: Path) -> dict[str, Style]:
-    return {crate: style_of(root, crate) for crate in listed(root)}
+    repeats = Counter(lemma.crate for lemmas in said_again(root) for lemma in lemmas[1:])
+    return {crate: style_of(root, crate, repeats[crate]) for crate in listed(root)}
 
 
 def read_record(root: Path) -> dict[str, Style]:
     """What is recorded."""
     lines = (root / RECORD).read_text("utf-8").splitlines()
     rows = (line.split() for line in lines if line and not line.startswith("#"))
-    return {crate: Style(int(code), int(proofs), frozenset(names)) for crate, code, proofs, *names in rows}
+    return {crate: Style(*map(int, row[:3]), frozenset(row[3:])) for crate, *row in rows}
 
 
 def record(root: Path, styles: dict[str, Style]) -> None:
     """Records these styles, of those crates that have something to be recorded."""
-    rows = ([crate, str(it.code), str(it.proofs), *sorted(it.participles)] for crate, it in styles.items() if it != Style())
+    rows = ([crate, str(it.code), str(it.proofs), str(it.repeats), *sorted(it.participles)] for crate, it in styles.items() if it != Style())
     (root / RECORD).write_text(HEAD + "".join(f"{' '.join(row)}\n" for row in rows), "utf-8")
 
 
@@ -88,6 +95,8 @@ def more_in(styles: dict[str, Style], than: dict[str, Style]) -> Iterator[str]:
         for what, wide, less in (("code", it.code, other.code), ("definitions and proofs", it.proofs, other.proofs)):
             if wide > less:
                 yield f"{crate} has lines of {what} wider than {WIDTH} columns: {wide} in place of {less}"
+        if it.repeats > other.repeats:
+            yield f"{crate} has lemmas that are proved elsewhere: {it.repeats} in place of {other.repeats}; tools/statements.py lists them"
         for name in sorted(it.participles - other.participles):
             yield f"{crate} has a function '{name}', which is named by a participle alone"
 
@@ -109,29 +118,29 @@ def ends_of(file: Path) -> Iterable[str]:
     return ("/".join(file.parts[at:]) for at in range(len(file.parts)))
 
 
-def all_faults(root: Path) -> Iterator[str]:
-    yield from more_in(styles_of(root), read_record(root))
+def all_faults(root: Path, styles: dict[str, Style] | None = None) -> Iterator[str]:
+    yield from more_in(styles or styles_of(root), read_record(root))
     yield from comment_faults(root)
 
 
-def renew(root: Path) -> None:
+def renew(root: Path, styles: dict[str, Style]) -> None:
     """Writes the record anew, and says where it rises, which is to be looked at."""
-    styles = styles_of(root)
     for line in more_in(styles, read_record(root)):
         print(f"tools/style.py: the record rises: {line}", file=sys.stderr)
     record(root, styles)
 
 
 def main() -> int:
-    if sys.argv[1:] == ["--record"]:
-        renew(ROOT)
-    elif sys.argv[1:]:
+    if sys.argv[1:] not in ([], ["--record"]):
         print((__doc__ or "").strip(), file=sys.stderr)
         return 2
-    faults = list(all_faults(ROOT))
+    styles = styles_of(ROOT)
+    if sys.argv[1:]:
+        renew(ROOT, styles)
+    faults = list(all_faults(ROOT, styles))
     for line in faults:
         print(f"tools/style.py: {line}", file=sys.stderr)
-    for line in more_in(read_record(ROOT), styles_of(ROOT)):
+    for line in more_in(read_record(ROOT), styles):
         print(f"tools/style.py --record lowers the record, in which {line}")
     return 1 if faults else 0
 

@@ -22,7 +22,7 @@ class Faults(unittest.TestCase):
         self.write("crates/rc_a/specs/A.antt", f"{WIDE}\n")
         self.write("crates/rc_a/proofs/f/Answers.antt", f"{WIDE}\n")
         self.write("crates/rc_b/src/lib.rt", "//! What b does.\nfn take() {}\n")
-        self.write(style.RECORD, "# head\nrc_a 1 2 taken\n")
+        self.write(style.RECORD, "# head\nrc_a 1 2 0 taken\n")
 
     def write(self, name: str, text: str) -> None:
         file = self.root / name
@@ -34,7 +34,7 @@ class Faults(unittest.TestCase):
 
     def test_what_is_recorded_is_let_be(self) -> None:
         self.assertEqual(self.faults(), [])
-        self.assertEqual(style.style_of(self.root, "rc_a"), Style(1, 2, frozenset(["taken"])))
+        self.assertEqual(style.style_of(self.root, "rc_a", 3), Style(1, 2, 3, frozenset(["taken"])))
 
     def test_no_crate_gets_more_wide_lines(self) -> None:
         self.write("crates/rc_a/src/more.rt", f"{WIDE}\n")
@@ -47,6 +47,13 @@ class Faults(unittest.TestCase):
                 "rc_a has lines of definitions and proofs wider than 120 columns: 3 in place of 2",
                 "rc_b has lines of definitions and proofs wider than 120 columns: 1 in place of 0",
             ],
+        )
+
+    def test_no_crate_gets_more_lemmas_that_are_proved_elsewhere(self) -> None:
+        self.write("crates/rc_a/specs/Lemmas.antt", "zeros : (n : ℕ) → n + 0 ≡ n\nzeros n = omega arith\n")
+        self.write("crates/rc_b/proofs/Lemmas.antt", "none-more : (k : ℕ) → k + 0 ≡ k\nnone-more k = omega arith\n")
+        self.assertEqual(
+            self.faults(), ["rc_b has lemmas that are proved elsewhere: 1 in place of 0; tools/statements.py lists them"]
         )
 
     def test_no_function_more_is_named_by_a_participle_alone(self) -> None:
@@ -76,8 +83,8 @@ class Faults(unittest.TestCase):
         self.write("crates/rc_b/src/lib.rt", f"{WIDE}\n")
         notes = io.StringIO()
         with redirect_stderr(notes):
-            style.renew(self.root)
-        self.assertEqual((self.root / style.RECORD).read_text(), f"{style.HEAD}rc_a 0 2 told\nrc_b 1 0\n")
+            style.renew(self.root, style.styles_of(self.root))
+        self.assertEqual((self.root / style.RECORD).read_text(), f"{style.HEAD}rc_a 0 2 0 told\nrc_b 1 0 0\n")
         self.assertEqual(
             notes.getvalue(),
             "tools/style.py: the record rises: rc_a has a function 'told', which is named by a participle alone\n"
