@@ -3,8 +3,7 @@ use Rattle.std.proofs.Common.{None, ◌≡◌, ℕ, suc, ◌<◌, ◌≤◌, Lis
 use Rattle.std.specs.List.{All, Contains}
 use Rattle.std.proofs.lemmas.Bool.{cases_lt}
 use Rattle.std.proofs.lemmas.List.Elements.{All-nil, All-cons, All-contains, All-weaker}
-use Rattle.rc_model.specs.Tree.{Tree, word, list, IsOpenAtMost}
-use Rattle.rc_form.specs.Form.{IsPrintable}
+use Rattle.rc_model.specs.Tree.{Tree}
 use Rattle.rc_grammar.specs.declared.fault.SheetFault.{SheetFault}
 use Rattle.rc_faults.specs.SecondFaults.{sheet_fault}
 use Rattle.rc_sheet_model.specs.Sheet.{Sheet, Loc}
@@ -14,6 +13,7 @@ use Rattle.rc_answers.specs.declared.refusal.Refusal.TheVariants as refusal
 use Rattle.rc_answers.specs.declared.status.SourceKind.{SourceKind}
 use Rattle.rc_answers.specs.Status.{sheet_kind}
 use Rattle.rc_sheet_laws.specs.Accepted.{IsSheetOf, IsAccepted}
+use Rattle.rc_trick.proofs.Accepted.{none_unseen}
 use Rattle.rc_answers.specs.Accepted.{HasPartFault, HasFirstFault}
 use Rattle.rc_answers.specs.Reading.{HasSheetFault, IsAcceptedWith}
 use Rattle.rc_answers.proofs.Options.{some_is}
@@ -28,11 +28,6 @@ one_unseen sheet at other is is' =
     let below = All-contains (λ n. at ≤ n) (unseen_offsets sheet) other is.first is'.stands in
     let above = All-contains (λ n. other ≤ n) (unseen_offsets sheet) at is'.first is.stands in
     omega (arith, below, above)
-
--- where all are in sight, none is the first out of sight
-none_unseen : (sheet : Sheet) (at : ℕ) → IsInSight sheet → IsUnseen sheet at → ⊥
-none_unseen sheet at none is =
-    let has = subst (λ locs. Contains (map (λ loc. loc.at) locs) at) none is.stands in omega (arith, has.1)
 
 -- the least of some numbers
 least : (n : ℕ) (ns : List ℕ) → (at : ℕ) × Contains (n ∷ ns) at × All (λ other. at ≤ other) (n ∷ ns)
@@ -120,8 +115,3 @@ both_accepted [] is is' = absurd is
 both_accepted {Q = Q} (form ∷ others) is is' =
     let same = one_sheet form is.0 is'.0 is.1.of_form is'.1.of_form in
     (is.0, others, is.2, subst (λ sheet. Q sheet others) same is'.2)
-
--- a form that can be printed has at most 64 lists open at one place
-pub fits : (tree : Tree) → IsPrintable tree → IsOpenAtMost 64 tree
-fits (word bytes from to) printable = absurd printable
-fits (list parts from to) printable = printable

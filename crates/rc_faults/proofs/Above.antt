@@ -3,16 +3,16 @@ use Rattle.std.proofs.Common.{◌≡◌, ℕ, suc, zero, ◌+◌, ◌<◌, List,
 use Rattle.rc_model.specs.Tree.{Trees, nil, cons}
 use Rattle.rc_form.specs.Form.{tree_of, trees_of, packed}
 use Rattle.rc_form.specs.declared.form.Form.{Form}
+use Rattle.rc_form.proofs.FormLemmas.{count_packed}
 use Rattle.rc_faults.specs.SecondParts.{part_at, front, attributes_of, attributes_among, inner_attributes, above_in, attributes_behind}
 use Rattle.rc_faults.specs.Entered.{entered}
-use Rattle.rc_faults.proofs.Counts.{count_packed}
 use Rattle.rc_faults.proofs.PartLemmas.{part_there}
 use Rattle.rc_grammar.specs.Faults.{count}
 use Rattle.rc_grammar.specs.declared.grammar.Rule.{Rule}
 use Rattle.rc_grammar.specs.declared.grammar.Rule.TheVariants as rule
 
 -- no part stands before the first
-none_before : (parts : Trees) → attributes_among (front 0 parts) ≡ []
+pub none_before : (parts : Trees) → attributes_among (front 0 parts) ≡ []
 none_before nil = refl
 none_before (cons tree trees) = refl
 

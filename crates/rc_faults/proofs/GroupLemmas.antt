@@ -7,7 +7,7 @@ use Rattle.rc_form.specs.Form.{tree_of, trees_of, packed}
 use Rattle.rc_form.specs.declared.form.Form.{Form}
 use Rattle.rc_form.specs.declared.form.Form.TheVariants.{Atom as AtomOf, List as ListOf}
 use Rattle.rc_form.specs.declared.form.Span.{Span}
-use Rattle.rc_faults.proofs.FormLemmas.{tree_of_atom, tree_of_list}
+use Rattle.rc_form.proofs.FormLemmas.{tree_of_atom, tree_of_list}
 use Rattle.rc_faults.specs.SecondParts.{attributes_of, attributes_below}
 use Rattle.rc_faults.specs.SecondNames.{written_faces, written_branches}
 use Rattle.rc_faults.specs.Groups.{faces_by, attributes_in}

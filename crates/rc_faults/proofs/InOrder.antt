@@ -5,6 +5,7 @@ use Rattle.std.proofs.lemmas.List.{append_assoc, append-nil}
 use Rattle.std.proofs.lemmas.List.Elements.{All-nil, All-cons, All-weaker}
 use Rattle.rc_model.specs.Tree.{Tree, word, list, Trees, nil, cons}
 use Rattle.rc_model.specs.Placed.{starts, all_starts, Rise, IsPlaced}
+use Rattle.rc_form.proofs.Placed.{Rise-lower}
 use Rattle.rc_grammar.specs.Faults.{first, rule_of}
 use Rattle.rc_grammar.specs.FirstOf.{rank, ComesBefore, IsFirstOf}
 use Rattle.rc_faults.specs.SecondParts.{Standing, Part, with_form, parts_at, parts_in, parts_of, standing_in, standing_alone, offset_of}
@@ -13,6 +14,7 @@ use Rattle.rc_grammar.specs.declared.grammar.Rule.{Rule}
 use Rattle.rc_grammar.specs.declared.fault.SheetKind.{SheetKind}
 use Rattle.rc_grammar.specs.declared.fault.SheetKind.TheVariants.{Shape, Number, Twice, Unknown, WrongKind, TooMany, NoCards}
 use Rattle.rc_grammar.specs.declared.fault.SheetFault.{SheetFault}
+use Rattle.rc_grammar.proofs.InOrder.{Rise-behind}
 
 -- THE PARTS
 
@@ -20,17 +22,6 @@ use Rattle.rc_grammar.specs.declared.fault.SheetFault.{SheetFault}
 abbrev Rises : ℕ → List Part → Type 0
 Rises low [] = Unit {0}
 Rises low (part ∷ parts) = (low ≤ offset_of part) × Rises (offset_of part + 1) parts
-
--- what rises from a number on rises from a lower one on
-Rise-lower : (low from high : ℕ) (numbers : List ℕ) → low ≤ from → Rise from high numbers → Rise low high numbers
-Rise-lower low from high [] below rise = omega arith
-Rise-lower low from high (n ∷ numbers) below rise = (let above = rise.0 in omega arith, rise.1)
-
--- the numbers behind some rise too
-Rise-behind : (before numbers : List ℕ) (low high : ℕ) → Rise low high (before ++ numbers) → Rise low high numbers
-Rise-behind [] numbers low high rise = rise
-Rise-behind (n ∷ before) numbers low high rise =
-    Rise-lower low (n + 1) high numbers (let above = rise.0 in omega arith) (Rise-behind before numbers (n + 1) high rise.1)
 
 -- what follows from the starts behind a tree, from wherever they rise
 abbrev Follows : ℕ → List ℕ → List Part → Type 0

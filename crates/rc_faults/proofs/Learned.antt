@@ -3,12 +3,12 @@ use Rattle.std.proofs.Common.{◌≡◌, ℕ, ◌+◌, ◌<◌, List, [], length
 use Rattle.rc_model.specs.Tree.{Tree, Trees, word, list}
 use Rattle.rc_form.specs.Form.{tree_of, trees_of, packed}
 use Rattle.rc_form.specs.declared.form.Form.{Form}
+use Rattle.rc_form.proofs.FormLemmas.{count_packed}
 use Rattle.rc_grammar.specs.Faults.{place_at}
 use Rattle.rc_grammar.specs.declared.grammar.Symbol.{Symbol}
 use Rattle.rc_grammar.specs.declared.grammar.Rule.{Rule}
 use Rattle.rc_faults.specs.SecondParts.{Standing, standing_in, role_in, around_in, above_in, parts_at, parts_in}
 use Rattle.rc_faults.specs.Summary.{Whole, know_all}
-use Rattle.rc_faults.proofs.Counts.{count_packed}
 use Rattle.rc_faults.proofs.Walks.{know_all-append}
 use Rattle.rc_faults.proofs.Checked.{left_at}
 

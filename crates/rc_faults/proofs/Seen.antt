@@ -120,7 +120,7 @@ team_lines_all (parts ∷ parts' ∷ lines) =
     team_lines_behind parts' lines ∙ ap (λ one. (true, one)) (sym (more_than_one parts parts' lines))
 
 -- nothing and so many
-zero_add : (n : ℕ) → 0 + n ≡ n
+pub zero_add : (n : ℕ) → 0 + n ≡ n
 zero_add n = omega arith
 
 -- What these parts leave behind, in a form of which this is known, is what they give.

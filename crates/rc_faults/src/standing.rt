@@ -20,7 +20,7 @@ pub struct Setting<'s, 'f, 'a> {
 
 /// Where the part of a form at this index stands, if anywhere. The form has this role, this around it and that around
 /// its parts.
-#[tactic(auto, using(crate::proofs::Counts::count_packed))]
+#[tactic(auto, using(rc_form::proofs::FormLemmas::count_packed))]
 pub fn standing_in<'s, 'f, 'a>(
     role: Role,
     around: &'s Around<'a>,

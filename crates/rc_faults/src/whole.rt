@@ -154,7 +154,7 @@ impl<'a> Whole<'a> {
     }
 
     /// Learns of a form, but for its parts.
-    #[tactic(auto, using(crate::proofs::Counts::count_packed))]
+    #[tactic(auto, using(rc_form::proofs::FormLemmas::count_packed))]
     fn learn_form(&mut self, rule: Rule, parts: &[Form<'a>]) -> Result<(), SheetFail>
         ensures known { OnOk result (self.new ≡ spec.know_form self.old rule (packed (trees_of parts.now))) }
         ensures memory { OnErr result (result ≡ Err SheetFail.Memory) }

@@ -12,3 +12,5 @@ pub mod PrintedIsSpelled
 pub mod AtomsAreRead
 pub mod Placed
 pub mod Digits
+pub mod FormLemmas
+pub mod SliceLemmas

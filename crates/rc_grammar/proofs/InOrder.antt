@@ -55,7 +55,7 @@ Ordered-first low (here ∷ faults) fault ordered is =
     })
 
 -- the numbers behind some rise too
-Rise-behind : (before numbers : List ℕ) (low high : ℕ) → Rise low high (before ++ numbers) → Rise low high numbers
+pub Rise-behind : (before numbers : List ℕ) (low high : ℕ) → Rise low high (before ++ numbers) → Rise low high numbers
 Rise-behind [] numbers low high rise = rise
 Rise-behind (n ∷ before) numbers low high rise =
     Rise-lower low (n + 1) high numbers (let above = rise.0 in omega arith) (Rise-behind before numbers (n + 1) high rise.1)

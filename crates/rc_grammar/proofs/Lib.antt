@@ -1,4 +1,3 @@
-pub mod Counts
 pub mod FirstFault
 pub mod InOrder
 pub mod OneForm

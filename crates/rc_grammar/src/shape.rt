@@ -62,7 +62,7 @@ fn check_list(place: Symbol, parts: &[Form], span: Span) -> Result<(), SheetFaul
 
 /// The first fault of a list that is to be this form.
 #[cycle(shapes)]
-#[tactic(auto, using(crate::proofs::Counts::count_packed))]
+#[tactic(auto, using(rc_form::proofs::FormLemmas::count_packed))]
 fn check_rule(rule: Rule, parts: &[Form], from: u32) -> Result<(), SheetFault>
     ensures { spec.fault_of result ≡ spec.first
         (spec.rule_faults from (packed (trees_of parts.now))
@@ -133,7 +133,7 @@ fn names_players(line: &Form) -> bool
 
 /// Where a list is at fault that is to be no form: at the part behind its head, where a fixed word is missing there and
 /// a form with that head has as many parts; else the list itself.
-#[tactic(auto, using(crate::proofs::Counts::count_packed))]
+#[tactic(auto, using(rc_form::proofs::FormLemmas::count_packed))]
 fn fault_place(place: Symbol, parts: &[Form], from: u32) -> u32
     ensures { result ≡ spec.fault_place place from (packed (trees_of parts.now)) }
 {

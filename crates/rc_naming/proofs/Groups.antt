@@ -7,7 +7,7 @@ use Rattle.rc_form.specs.declared.form.Form.{Form}
 use Rattle.rc_form.specs.declared.form.Span.{Span}
 use Rattle.rc_form.specs.declared.form.Form.TheVariants.{Atom, List as ListOf}
 use Rattle.rc_form.specs.Form.{tree_of, trees_of, packed}
-use Rattle.rc_setup.proofs.FormLemmas.{tree_of_atom, tree_of_list}
+use Rattle.rc_form.proofs.FormLemmas.{tree_of_atom, tree_of_list}
 use Rattle.rc_setup.proofs.SliceLemmas.{two}
 use Rattle.rc_sheet_model.specs.FormMentions.{word_of, branch_attr_words, branch_value_words}
 use Rattle.rc_naming.specs.Mentions.{Mentions}

@@ -4,8 +4,8 @@ use Rattle.std.proofs.lemmas.List.{append-nil}
 use Rattle.rc_model.specs.Tree.{Tree, word, list, nil, cons, count}
 use Rattle.rc_form.specs.declared.form.Form.{Form}
 use Rattle.rc_form.specs.Form.{tree_of, trees_of, packed}
+use Rattle.rc_form.proofs.FormLemmas.{count_packed}
 use Rattle.rc_grammar.specs.declared.keyword.Keyword.{Keyword}
-use Rattle.rc_grammar.proofs.Counts.{count_packed}
 use Rattle.rc_sheet_model.specs.FormMentions.{attr_word, value_word, map_word, setup_lines, body, deck_groups, points_map, points_entries, bound_words, var_words, all_var_words}
 use Rattle.rc_naming.specs.Mentions.{loc_mention, num_mention}
 use Rattle.rc_naming.specs.Known.{parts_in, begins_by, third_part}

@@ -2,7 +2,6 @@ pub mod Both
 pub mod CountLemmas
 pub mod DraftLemmas
 pub mod FirstFault
-pub mod FormTree
 pub mod Headed
 pub mod Lengths
 pub mod MatchLemmas

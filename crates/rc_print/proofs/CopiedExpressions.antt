@@ -12,7 +12,7 @@ use Rattle.rc_print.specs.Unplaced.{card_unplaced, coll_unplaced, colls_unplaced
 use Rattle.rc_print.proofs.Copied.{Copies, AreCopied, keyword_copied, row_copied, bound_copied, part_copied, end_copied, least_copied}
 use Rattle.rc_print.proofs.CopiedNames.{one_copied, two_copied, named_copied, literal_copied, Fits, in_scope_copied, owners_copied, binder_copied, bind_fits, with_map_copied, loc_copied, num_copied}
 
-same_sort : (domain : Domain) → sort_of (domain_unplaced domain) ≡ sort_of domain
+pub same_sort : (domain : Domain) → sort_of (domain_unplaced domain) ≡ sort_of domain
 same_sort each_player = refl
 same_sort (each_card cards) = refl
 same_sort (each_group cards attr) = refl

@@ -3,7 +3,7 @@ mod MapLemmas
 mod PrintedNumbers
 mod Copied
 mod CopiedNames
-mod CopiedExpressions
+pub mod CopiedExpressions
 mod CopiedItems
 mod CopiedSetup
 pub mod CopiedSheet

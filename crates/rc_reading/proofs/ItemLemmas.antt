@@ -5,6 +5,7 @@ use Rattle.std.proofs.lemmas.List.{length-append}
 use Rattle.rc_model.specs.Tree.{cons}
 use Rattle.rc_form.specs.Form.{tree_of, trees_of, packed}
 use Rattle.rc_form.specs.declared.form.Form.{Form}
+use Rattle.rc_form.proofs.FormLemmas.{count_packed}
 use Rattle.rc_sheet_model.specs.Sheet.{player_class, team_class, SheetItems, Best, IntExpr}
 use Rattle.rc_sheet_model.specs.Naming.{Naming}
 use Rattle.rc_grammar.specs.Faults.{fits, count}
@@ -13,7 +14,6 @@ use Rattle.rc_grammar.specs.declared.grammar.Rule.{Rule}
 use Rattle.rc_grammar.specs.declared.grammar.Rule.TheVariants as rules
 use Rattle.rc_reading.specs.ReadNames.{◌>>=◌, both, ensure, rule_at}
 use Rattle.rc_reading.specs.ReadItems.{Begun, none_begun, with_stage, stage_of, end_at, item_rule, item_of_list, items_at, score_at, but_last, last_of, body_at}
-use Rattle.rc_reading.proofs.Counts.{count_packed}
 use Rattle.rc_reading.proofs.Parts.{rest, behind_third}
 use Rattle.rc_reading.proofs.Readings.{of_rule, fits_known}
 

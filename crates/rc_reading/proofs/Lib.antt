@@ -1,5 +1,4 @@
 mod AlternativeLemmas
-mod Counts
 mod EffectLemmas
 mod Forms
 mod InTurn

@@ -10,7 +10,7 @@ use Rattle.rc_form.specs.declared.form.Form.TheVariants.{List as ListOf}
 use Rattle.rc_form.specs.declared.form.Form.TheViews.{sized-List}
 use Rattle.rc_form.specs.declared.form.Form.{size-Form}
 use Rattle.rc_form.specs.declared.form.Span.{Span}
-use Rattle.rc_setup.proofs.FormLemmas.{tree_of_list}
+use Rattle.rc_form.proofs.FormLemmas.{tree_of_list}
 use Rattle.rc_grammar.specs.declared.grammar.Symbol.{Symbol}
 use Rattle.rc_grammar.specs.declared.grammar.Rule.{Rule}
 use Rattle.rc_reading.specs.ReadNames.{◌>>=◌, rule_at}

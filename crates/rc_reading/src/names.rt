@@ -19,7 +19,7 @@ use rc_names::limits::MOST_VARIABLES;
 use std::alloc::Global;
 
 /// The form that a list has at a place, which has as many parts.
-#[tactic(auto, using(crate::proofs::Counts::count_packed))]
+#[tactic(auto, using(rc_form::proofs::FormLemmas::count_packed))]
 pub fn rule_at(place: Symbol, parts: &[Form]) -> Result<Rule, Unread>
     ensures given { Gives (λ rule. rule) result (reading.rule_at place (packed (trees_of parts.now))) }
     ensures sized { IfOk result (λ rule. IsTrue (fits (length parts.now) rule)) }

@@ -9,10 +9,11 @@ use Rattle.rc_form.specs.declared.form.Form.{Form}
 use Rattle.rc_form.specs.declared.form.Span.{Span}
 use Rattle.rc_form.specs.declared.form.Form.TheVariants.{List as ListOf}
 use Rattle.rc_form.specs.Form.{tree_of, trees_of, packed}
+use Rattle.rc_form.proofs.FormLemmas.{tree_of_list}
+use Rattle.rc_form.proofs.SliceLemmas.{three}
 use Rattle.rc_setup.specs.Naming.{number_of}
 use Rattle.rc_setup.specs.Reading.{both, read_group, read_group_parts, read_branch_list, read_branches, read_branch, read_branch_parts, read_groups, read_deck, read_deck_parts, is_word, unless_nil, entry_with, read_entry, read_entry_parts, read_value_list, read_points, read_entries, read_all_entries}
-use Rattle.rc_setup.proofs.FormLemmas.{tree_of_list}
-use Rattle.rc_setup.proofs.SliceLemmas.{two, three, unless_nil_some}
+use Rattle.rc_setup.proofs.SliceLemmas.{two, unless_nil_some}
 
 pub read_group_with : (names : DeckNames) (form : Form) (items : Vec Form Global) (span : Span) (head second : Form) →
     form ≡ ListOf items span → length items.items ≡ 2 → head ≡ get_or items.items 0 head → second ≡ get_or items.items 1 second →

@@ -1,5 +1,4 @@
 pub mod WordLemmas
-pub mod FormLemmas
 pub mod SliceLemmas
 pub mod LoopLemmas
 pub mod BuildLemmas

@@ -11,14 +11,6 @@ two (x ∷ []) a b long is-a is-b = absurd (omega arith)
 two (x ∷ y ∷ []) a b long is-a is-b = ap (λ z. z ∷ y ∷ []) (sym is-a) ∙ ap (λ z. a ∷ z ∷ []) (sym is-b)
 two (x ∷ y ∷ z ∷ zs) a b long is-a is-b = absurd (omega arith)
 
-pub three : {X : Type 0} (xs : List X) (a b c : X) → length xs ≡ 3 → a ≡ get_or xs 0 a → b ≡ get_or xs 1 b → c ≡ get_or xs 2 c → xs ≡ a ∷ b ∷ c ∷ []
-three [] a b c long is-a is-b is-c = absurd (omega arith)
-three (x ∷ []) a b c long is-a is-b is-c = absurd (omega arith)
-three (x ∷ y ∷ []) a b c long is-a is-b is-c = absurd (omega arith)
-three (x ∷ y ∷ z ∷ []) a b c long is-a is-b is-c =
-    ap (λ w. w ∷ y ∷ z ∷ []) (sym is-a) ∙ ap (λ w. a ∷ w ∷ z ∷ []) (sym is-b) ∙ ap (λ w. a ∷ b ∷ w ∷ []) (sym is-c)
-three (x ∷ y ∷ z ∷ w ∷ ws) a b c long is-a is-b is-c = absurd (omega arith)
-
 -- a group has two parts, and an entry three
 pub read_group_other : (names : DeckNames) (forms : List Form) → (length forms ≡ 2 → ⊥) → read_group_parts names (packed (trees_of forms)) ≡ None
 read_group_other names [] other = refl

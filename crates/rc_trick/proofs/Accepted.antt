@@ -114,7 +114,7 @@ pub game_players : (sheet : Sheet) → IsTrickGame sheet → sheet.players ≡ 4
 game_players sheet game = ap (λ (sheet : Sheet). sheet.players) (same_game sheet game) ∙ four_players
 
 -- where all are in sight, none is the first out of sight
-none_unseen : (sheet : Sheet) (at : ℕ) → IsInSight sheet → IsUnseen sheet at → ⊥
+pub none_unseen : (sheet : Sheet) (at : ℕ) → IsInSight sheet → IsUnseen sheet at → ⊥
 none_unseen sheet at none is =
     let has = subst (λ locs. Contains (map (λ loc. loc.at) locs) at) none is.stands in omega (arith, has.1)
 

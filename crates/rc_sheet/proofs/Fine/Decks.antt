@@ -33,6 +33,7 @@ use Rattle.rc_setup.specs.Naming.{number_of}
 use Rattle.rc_setup.specs.Reading.{unless_nil, plain, read_groups, read_group, read_branch_list, read_branches, read_branch, read_deck}
 use Rattle.rc_setup.specs.Reading.{both as both_read}
 use Rattle.rc_setup.specs.Reading.{is_word as is_read_word}
+use Rattle.rc_faults.proofs.Above.{none_before}
 use Rattle.rc_naming.specs.Naming.{naming_of}
 use Rattle.rc_reading.specs.ReadNames.{loc_at}
 use Rattle.rc_reading.specs.ReadSetup.{Setup, face_words, home_of, deck_at}
@@ -175,10 +176,6 @@ abbrev pub behind_at : ℕ → Trees → Trees
 behind_at zero trees = trees
 behind_at (suc n) nil = nil
 behind_at (suc n) (cons tree trees) = behind_at n trees
-
-pub none_before : (trees : Trees) → attributes_among (front 0 trees) ≡ []
-none_before nil = refl
-none_before (cons tree trees) = refl
 
 more_front : (index : ℕ) (all : Trees) (tree : Tree) (rest : Trees) → behind_at index all ≡ cons tree rest
     → (behind_at (suc index) all ≡ rest)

@@ -8,13 +8,8 @@ use Rattle.rc_sheet_model.specs.Rows.{◌▸◌, End, Row, Atom}
 use Rattle.rc_sheet_model.specs.Naming.{Naming, Scope, bind, sort_of, Named, Binder, KindOf}
 use Rattle.rc_sheet_model.specs.StandsExpressions.{StandsOwner, StandsHolder, StandsLoc, StandsNum, Two, TwoOwners, StandsCard, StandsColl, StandColls, StandsInt, StandsTest, StandTests, StandsRange, StandsDomain}
 use Rattle.rc_print.specs.Unplaced.{loc_unplaced, card_unplaced, coll_unplaced, colls_unplaced, int_unplaced, test_unplaced, tests_unplaced, domain_unplaced}
+use Rattle.rc_print.proofs.CopiedExpressions.{same_sort}
 use Rattle.rc_sheet_laws.proofs.Moved.Common.{Keeps, AllKeep, Again, Moves, AllMove, word_keeps, row_keeps, part_keeps, end_keeps, still, made, all_made, kept, row_moves, behind_kept, before_kept, least_moves, headed, one_moves, part_moves, two_move, around_kept}
-
--- what a variable runs over is of one sort
-pub same_sort : (domain : Domain) → sort_of (domain_unplaced domain) ≡ sort_of domain
-same_sort each_player = refl
-same_sort (each_card cards) = refl
-same_sort (each_group cards attr) = refl
 
 pub one_sort : (domain other : Domain) → domain_unplaced other ≡ domain_unplaced domain
     → sort_of (domain_unplaced domain) ≡ sort_of other

@@ -18,8 +18,9 @@ use Rattle.rc_faults.specs.declared.role.Role.TheVariants.{No as no_role, GivenV
 use Rattle.rc_faults.specs.SecondParts.{Standing, Part, parts_at, parts_in, standing_in, attributes_of, attributes_below, attributes_among, front}
 use Rattle.rc_faults.specs.SecondNames.{some_of, is_named}
 use Rattle.rc_faults.specs.SecondFaults.{sorts_at}
+use Rattle.rc_faults.proofs.Above.{none_before}
 use Rattle.rc_sheet.proofs.Among.{Among, among_left, among_right, among_either, named_among}
-use Rattle.rc_sheet.proofs.Fine.Decks.{behind_at, none_before, next_front}
+use Rattle.rc_sheet.proofs.Fine.Decks.{behind_at, next_front}
 use Rattle.rc_sheet.proofs.GoodParts.{Each}
 use Rattle.rc_sheet_laws.proofs.One.Rows.{three_parts}
 use Rattle.rc_sheet_laws.proofs.One.Names.{Alone}

@@ -16,6 +16,7 @@ use Rattle.rc_sheet_model.specs.WellFormed.{is_among}
 use Rattle.rc_grammar.specs.Faults.{faults}
 use Rattle.rc_grammar.specs.declared.grammar.Symbol.TheVariants as symbol
 use Rattle.rc_faults.specs.SecondParts.{parts_of}
+use Rattle.rc_faults.proofs.Seen.{zero_add}
 use Rattle.rc_sheet.proofs.Among.{Among, among_right, among_named, among_map}
 use Rattle.rc_sheet.proofs.Lines.{within_lines}
 use Rattle.rc_sheet.proofs.MapsInTurn.{points_alone}
@@ -65,9 +66,6 @@ map_mentioned start (suc k) (entries ∷ points) less =
     (among_right (start + suc k) (flat_map map_of (flat_map in_entry entries)) (flat_map map_of rest)
     (subst (λ m. Among m (flat_map map_of rest)) next (map_mentioned (start + 1) k points (omega (arith, less))))))
 
-no_start : (n : ℕ) → 0 + n ≡ n
-no_start n = omega arith
-
 -- WHAT IS GIVEN
 pub are_given : (sheet : Sheet) (tree : Tree) → faults symbol.Sheet tree ≡ [] → Stands sheet tree → AreGiven sheet (parts_of tree)
 are_given sheet tree shaped stands =
@@ -101,7 +99,7 @@ are_given sheet tree shaped stands =
           (subst (λ w. Among w (said maps sheet.names (flat_map in_map (numbered sheet.points))))
           (get_or_from_slice_get sheet.names.maps n bytes [] is)
           (among_map (λ m. slice_index_or sheet.names.maps m []) n (flat_map map_of (flat_map in_map (numbered sheet.points)))
-          (subst (λ m. Among m (flat_map map_of (flat_map in_map (numbered sheet.points)))) (no_start n)
+          (subst (λ m. Among m (flat_map map_of (flat_map in_map (numbered sheet.points)))) (zero_add n)
           (map_mentioned 0 n sheet.points map))))));
     })
     stands

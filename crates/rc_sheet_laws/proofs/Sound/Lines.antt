@@ -17,6 +17,7 @@ use Rattle.rc_grammar.specs.declared.grammar.Rule.TheVariants as rule
 use Rattle.rc_faults.specs.declared.role.Role.TheVariants.{No as no_role, DeckLocation as deck_location}
 use Rattle.rc_faults.specs.SecondParts.{Part, parts_at}
 use Rattle.rc_faults.specs.SecondFaults.{leaves_out, is_game}
+use Rattle.rc_faults.proofs.Above.{none_before}
 use Rattle.rc_sheet.proofs.Among.{Among, one_of_all}
 use Rattle.rc_sheet.proofs.GoodParts.{Each}
 use Rattle.rc_sheet_laws.proofs.One.Rows.{behind_word, row_words, row_word_part, two_parts}
@@ -26,7 +27,6 @@ use Rattle.rc_sheet_laws.proofs.Shaped.Setup.{one_of_four}
 use Rattle.rc_sheet_laws.proofs.Sound.Names.{fixed, Takes, loc_sound}
 use Rattle.rc_sheet_laws.proofs.Sound.Effects.{mem_told}
 use Rattle.rc_sheet_laws.proofs.Sound.Faces.{Worded, worded_none, literal_sound, groups_sound, entries_sound}
-use Rattle.rc_sheet.proofs.Fine.Decks.{none_before}
 
 -- EACH LINE
 

@@ -4,7 +4,7 @@ use Rattle.rc_sheet_model.specs.Sheet.{card_sort, game_class, player_class, team
 use Rattle.rc_sheet_model.specs.Naming.{sort_of}
 use Rattle.rc_sheet_model.specs.WellFormed.{Around, in_stage, in_repeat, is_equality, behind, IsCard, IsColl, AreColls, IsInt, IsTest, AreTests, IsRange, IsDomain, IsEffect, AreEffects, IsAlt, AreAlts, IsItem, AreItems}
 use Rattle.rc_print.specs.Unplaced.{card_unplaced, coll_unplaced, colls_unplaced, int_unplaced, test_unplaced, tests_unplaced, domain_unplaced, effect_unplaced, effects_unplaced, alt_unplaced, item_unplaced, items_unplaced}
-use Rattle.rc_sheet_laws.proofs.Moved.Expressions.{same_sort}
+use Rattle.rc_print.proofs.CopiedExpressions.{same_sort}
 use Rattle.rc_sheet_laws.proofs.Moved.Sheet.{with_body}
 use Rattle.rc_sheet_laws.proofs.Unplaced.Mentions.{colls_count, tests_count, effects_count, alts_count, items_count}
 

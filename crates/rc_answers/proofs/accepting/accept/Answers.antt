@@ -2,12 +2,12 @@ use Rattle.std.proofs.Common.{subst, sym}
 use Rattle.rc_form.specs.Form.{tree_of}
 use Rattle.rc_sheet_model.specs.Sight.{IsInSight}
 use Rattle.rc_ast.specs.Sheet.{sheet_seen}
+use Rattle.rc_sheet.proofs.Accepted.{fits_in}
 use Rattle.rc_sheet_laws.specs.Accepted.{IsSheetOf}
-use Rattle.rc_answers.proofs.AcceptedLaws.{fits}
 use Rattle.rc_answers.proofs.accepting.accept.Goals as goal
 
 pub sheet_of-requires-clause-shallow : goal.sheet_of-requires-clause-shallow
-sheet_of-requires-clause-shallow c = fits (tree_of c.args.form.now) c.requires.printable
+sheet_of-requires-clause-shallow c = fits_in (tree_of c.args.form.now) c.requires.printable
 
 pub returns-clause-accepted : goal.returns-clause-accepted
 returns-clause-accepted c =

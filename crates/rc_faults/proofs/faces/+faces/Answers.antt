@@ -2,8 +2,8 @@ use Rattle.std.proofs.Common.{◌≡◌, ◌+◌, ◌*◌, ◌∷◌, min, drop,
 use Rattle.std.proofs.lemmas.List.{at_drop_more}
 use Rattle.rc_faults.proofs.Capped.{one_more}
 use Rattle.rc_form.specs.Form.{tree_of, trees_of, packed}
+use Rattle.rc_form.proofs.FormLemmas.{tree_of_atom, tree_of_list}
 use Rattle.rc_faults.specs.SecondNames.{written_faces, written_branches}
-use Rattle.rc_faults.proofs.FormLemmas.{tree_of_atom, tree_of_list}
 use Rattle.rc_faults.specs.Groups.{faces_by}
 use Rattle.rc_faults.proofs.GroupLemmas.{list_seen, once_by_short, once_by_long, branches_by, pair_by, faces_more}
 use Rattle.rc_faults.proofs.faces.+faces.Goals as goal

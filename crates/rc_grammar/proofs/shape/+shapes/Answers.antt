@@ -2,11 +2,11 @@ use Rattle.std.proofs.Common.{◌≡◌, ℕ, List, length, Option, Result, ap, 
 use Rattle.std.proofs.lemmas.Result.{err_from_is_err_and}
 use Rattle.rc_form.specs.Form.{tree_of, trees_of, packed}
 use Rattle.rc_form.specs.declared.form.Form.{Form}
+use Rattle.rc_form.proofs.FormLemmas.{count_packed}
 use Rattle.rc_grammar.specs.Faults as spec
 use Rattle.rc_grammar.specs.declared.fault.SheetFault.{SheetFault}
 use Rattle.rc_grammar.specs.declared.grammar.Symbol.{Symbol}
 use Rattle.rc_grammar.specs.declared.grammar.Rule.{Rule}
-use Rattle.rc_grammar.proofs.Counts.{count_packed}
 use Rattle.rc_grammar.proofs.FirstFault.{step_on, stop_here}
 use Rattle.rc_grammar.proofs.shape.+shapes.Goals as goal
 

@@ -4,8 +4,8 @@ use Rattle.std.proofs.lemmas.Int.{ints}
 use Rattle.std.proofs.lemmas.List.{get_or_default}
 use mir.Val.{SFits}
 use Rattle.rc_form.specs.Form.{tree_of}
+use Rattle.rc_form.proofs.FormLemmas.{tree_of_list}
 use Rattle.rc_setup.specs.Reading.{both, entry_with, read_entry, read_value_list, read_points}
-use Rattle.rc_setup.proofs.FormLemmas.{tree_of_list}
 use Rattle.rc_setup.proofs.PointLemmas.{points_within}
 use Rattle.rc_setup.proofs.SliceLemmas.{read_entry_other}
 use Rattle.rc_setup.proofs.GroupLemmas.{read_entry_of}

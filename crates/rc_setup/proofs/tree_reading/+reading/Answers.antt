@@ -3,8 +3,8 @@ use Rattle.std.proofs.lemmas.Bool.{eq-eqb, false≢true}
 use Rattle.rc_model.specs.Deck.{no_group, no_branch}
 use Rattle.rc_form.specs.Form.{tree_of, trees_of, packed}
 use Rattle.rc_deck.specs.Tree.{groups_in, branches_in}
+use Rattle.rc_form.proofs.FormLemmas.{tree_of_list}
 use Rattle.rc_setup.specs.Reading.{both, read_group, read_branch_list, read_branches, read_groups}
-use Rattle.rc_setup.proofs.FormLemmas.{tree_of_list}
 use Rattle.rc_setup.proofs.SliceLemmas.{read_group_other}
 use Rattle.rc_setup.proofs.LoopLemmas.{read_more, read_end}
 use Rattle.rc_setup.proofs.BuildLemmas.{reads_groups, reads_branches, onto_groups, onto_branches, onto_groups-none, onto_branches-none, group_is, branch_is, seen_group, seen_branch}
