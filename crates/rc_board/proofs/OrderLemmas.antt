@@ -2,7 +2,7 @@
 use Rattle.std.proofs.Common.{◌≡◌, ℕ, zero, suc, ◌+◌, ◌<◌, ◌≤◌, ◌==◌, ◌||◌, Bool, true, false, true≢false, List, [], ◌∷◌, length, map, drop, inl, inr, refl, sym, ap, ap₂, ◌∙◌, subst, arith}
 use Rattle.std.specs.Prelude.{slice_index, slice_index_or, slice_set, All}
 use Rattle.std.specs.List.{list_any}
-use Rattle.std.proofs.lemmas.Bool.{cases_lt}
+use Rattle.std.proofs.lemmas.Bool.{cases_lt, or_parts}
 use Rattle.std.proofs.lemmas.Bool.Decides.{Decides-eqb}
 use Rattle.std.proofs.lemmas.List.{set-get_or, get_or_past, length-set, length-map, drop_all}
 use Rattle.rc_play_model.specs.Shape.{Shape}
@@ -55,10 +55,6 @@ only_marks [] bytes t = refl
 only_marks (id ∷ ids) [] t = refl
 only_marks (id ∷ ids) (byte ∷ bytes) t = only_marks ids bytes (marked_as id byte t)
 
-or_false : (a b : Bool) → (a || b) ≡ false → (a ≡ false) × (b ≡ false)
-or_false true b is = absurd (true≢false is)
-or_false false b is = (refl, is)
-
 differ : (i j : ℕ) → (i == j) ≡ false → i ≡ j → ⊥
 differ i j is same = true≢false (sym ((Decides-eqb i j).1 same) ∙ is)
 
@@ -72,7 +68,7 @@ same_lists (x ∷ xs) (y ∷ ys) long each = ap₂ ◌∷◌ (each 0) (same_list
 others_keep : (ids : List ℕ) (marks : List (List ℕ)) (j : ℕ) → list_any (λ other. other == j) ids ≡ false → marks_of (cleared ids marks) j ≡ marks_of marks j
 others_keep [] marks j none = refl
 others_keep (id ∷ ids) marks j none =
-    let two = or_false (id == j) (list_any (λ other. other == j) ids) none in
+    let two = or_parts (id == j) (list_any (λ other. other == j) ids) none in
     others_keep ids (slice_set marks id []) j two.1 ∙ set_other marks id j [] (differ id j two.0)
 
 pub none_cleared : (ids : List ℕ) (marks : List (List ℕ)) → ((k : ℕ) → k < length ids → marks_of marks (slice_index ids k) ≡ []) → cleared ids marks ≡ marks

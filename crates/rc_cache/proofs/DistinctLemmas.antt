@@ -2,7 +2,7 @@
 use Rattle.std.proofs.Common.{◌≡◌, ℕ, zero, suc, ◌+◌, ◌≤◌, Bool, true, false, not, ◌||◌, cond, List, [], ◌∷◌, length, take, refl, sym, ap, ap₂, ◌∙◌, arith}
 use Rattle.std.specs.Cmp.{IsEquivalence, decided}
 use Rattle.std.specs.List.{AllByRecursion, IsDistinct}
-use Rattle.std.proofs.lemmas.Bool.{and_parts, false≢true}
+use Rattle.std.proofs.lemmas.Bool.{and_parts, false≢true, or_parts}
 use Rattle.std.proofs.lemmas.Map.Made.{length-from_keys}
 use Rattle.std.specs.Set.{is_member, distinct_count}
 use Rattle.rc_redraw.specs.Asking.{Key}
@@ -20,13 +20,9 @@ abbrev Apart : List Key → Type 0
 Apart [] = Unit {0}
 Apart (k ∷ ks) = (stands k ks ≡ false) × Apart ks
 
-neither : (a b : Bool) → (a || b) ≡ false → (a ≡ false) × (b ≡ false)
-neither true b n = absurd (false≢true (sym n))
-neither false b n = (refl, n)
-
 apart_each : (k : Key) (ks : List Key) → stands k ks ≡ false → AllByRecursion (λ j. same_key k j ≡ false) ks
 apart_each k [] n = tt
-apart_each k (x ∷ ks) n = let p = neither (same_key k x) (stands k ks) n in (p.0, apart_each k ks p.1)
+apart_each k (x ∷ ks) n = let p = or_parts (same_key k x) (stands k ks) n in (p.0, apart_each k ks p.1)
 
 distinct : (ks : List Key) → Apart ks → IsDistinct same_key ks
 unfolding IsDistinct

@@ -21,7 +21,7 @@ right : (a b : Bool) → (a || b) ≡ false → b ≡ false
 right false b e = e
 right true b e = absurd (cc)
 
-other_place : (var k : ℕ) → (var == k) ≡ false → (var ≡ k → ⊥)
+pub other_place : (var k : ℕ) → (var == k) ≡ false → (var ≡ k → ⊥)
 other_place var k e same = grind (arith, nat_tests)
 
 -- what stands at other places

@@ -8,10 +8,10 @@ use Rattle.rc_play_model.specs.Step.{Stage, Part, round, turn, todos}
 use Rattle.rc_play_model.specs.Path.{Path, stage_at, stage_in, body_of, marks_of, within, left_here, left_of, body_at}
 use Rattle.rc_play_model.specs.Fits.{around}
 use Rattle.rc_play_model.proofs.PathLemmas.{body-more}
+use Rattle.rc_play_model.proofs.DepthLemmas.{none_within}
+use Rattle.rc_play_model.proofs.FrameLemmas.{around-todos}
+use Rattle.rc_play_model.proofs.SiteLemmas.{none_not-some}
 use Rattle.rc_plain.specs.Paths.{ArePlaces, IsPath, item_at}
-
-none_not-some : {A : Type 0} (a : A) → None ≡ Some a → ⊥
-none_not-some a is = cc
 
 -- PLACES
 
@@ -51,13 +51,9 @@ past_end (x ∷ xs) (suc n) none = let rest = past_end xs n none in omega (arith
 
 -- HOW MANY STAGES ARE OPEN
 
-around_items : (items : List SheetItem) (parts : List Part) → around (todos items ++ parts) ≡ around parts
-around_items [] parts = refl
-around_items (i ∷ items) parts = around_items items parts
-
 around_within : (items : List SheetItem) (outer : List ℕ) (next : ℕ) (behind : List Part) → ArePlaces items outer →
     length (around (left_here (within items outer behind) next false)) ≡ length outer + length (around behind)
-around_within items [] next behind are = let same = ap length (around_items (drop next items) behind) in omega (arith, same)
+around_within items [] next behind are = let same = ap length (around-todos (drop next items) behind) in omega (arith, same)
 around_within items (i ∷ outer) next behind are =
     let rest : List Part = todos (drop (i + 1) items) ++ behind in
     let s = are.0 in
@@ -67,7 +63,7 @@ around_within items (i ∷ outer) next behind are =
     let inner = around_within (item_list s.body) outer next (turn s ∷ round s ∷ rest) are.2 in
     let opened : length (around (turn s ∷ round s ∷ rest)) ≡ length (around rest ++ s ∷ []) = refl in
     let here = length-append (around rest) (s ∷ []) in
-    let same = ap length (around_items (drop (i + 1) items) behind) in
+    let same = ap length (around-todos (drop (i + 1) items) behind) in
     omega (arith, start, inner, opened, here, same)
 
 -- so many as there are places
@@ -95,10 +91,6 @@ in_body : (sheet : Sheet) (around : Around) (number : ℕ) (class : Class) (end 
 in_body sheet around number game_class end body is = absurd is
 in_body sheet around number player_class end body is = (is.0, is.2, refl)
 in_body sheet around number team_class end body is = (is.0, is.2, refl)
-
-none_within : (outer : List ℕ) (behind : List Part) (n : ℕ) (i : SheetItem) → slice_get (within [] outer behind).0 n ≡ Some i → ⊥
-none_within [] behind n i is = none_not-some i is
-none_within (k ∷ outer) behind n i is = none_within outer _ n i is
 
 through : (sheet : Sheet) (k n : ℕ) (outer : List ℕ) (i : SheetItem) →
     ((around : Around) (body : SheetItems) (behind : List Part) → around.binders ≡ 0 → AreItems sheet around body →

@@ -1,5 +1,5 @@
 -- A choice that is found among items, and one that isn't there.
-use Rattle.std.proofs.Common.{◌≡◌, ℕ, zero, suc, ◌+◌, ◌≤◌, ◌<◌, ◌==◌, true, false, List, [], ◌∷◌, ◌++◌, map, length, drop, get_or, slice_get, take, ◌-◌, Option, Some, None, is_some, option_map, Vec, Global, refl, sym, ap, ◌∙◌, subst, append_assoc, append-nil, length-append, true≢false, arith}
+use Rattle.std.proofs.Common.{◌≡◌, ℕ, ◌+◌, ◌≤◌, ◌<◌, ◌==◌, true, false, List, [], ◌∷◌, ◌++◌, map, length, drop, get_or, slice_get, take, ◌-◌, Option, Some, None, is_some, option_map, Vec, Global, refl, sym, ap, ◌∙◌, subst, append_assoc, append-nil, length-append, true≢false, arith}
 use Rattle.std.proofs.lemmas.Bool.{cond-false, ne_eqb}
 use Rattle.std.proofs.Math.Seq.{take-append_seam}
 use Rattle.std.proofs.lemmas.List.{drop_more}
@@ -10,11 +10,12 @@ use Rattle.rc_ast.specs.declared.expressions.Test.{Test}
 use Rattle.rc_ast.specs.Expressions.{test_seen}
 use Rattle.rc_ast.specs.Items.{item_seen, items_seen, alts_seen}
 use Rattle.rc_ast.proofs.ViewLemmas.{stage_seen}
-use Rattle.rc_sheet_model.specs.Sheet.{Class, SheetItem as PureItem, SheetItems, no_item, item, choice}
+use Rattle.rc_sheet_model.specs.Sheet.{Class, SheetItems, choice}
 use Rattle.rc_sheet_model.specs.Lists.{item_list}
 use Rattle.rc_play_model.specs.Menu.{alts_in, alts_in_item}
 use Rattle.rc_play_model.specs.Step.{Stage as PureStage}
 use Rattle.rc_play_model.specs.Path.{stage_at, stage_in, body_at, item_depth, items_depth}
+use Rattle.rc_play_model.proofs.DepthLemmas.{nth_depth}
 use Rattle.rc_plain.specs.Paths.{ArePlaces, Finds}
 use Rattle.rc_plain.proofs.StageLemmas.{item_list-from, stage_is}
 use Rattle.rc_plain.proofs.PathLemmas.{within_first}
@@ -26,11 +27,6 @@ pub tree_at : (xs : List SheetItem) (i : ℕ) (x : SheetItem) → i < length xs 
 tree_at xs i x lt is =
     ap (λ ys. slice_get ys i) (item_list-from (map item_seen xs))
     ∙ slice_get-map item_seen xs i ∙ ap (option_map item_seen) (slice_get-get_or xs i x lt) ∙ ap (λ y. Some (item_seen y)) (sym is)
-
-pub depth_at : (items : SheetItems) (n : ℕ) (i : PureItem) → slice_get (item_list items) n ≡ Some i → item_depth i ≤ items_depth items
-depth_at no_item n i is = absurd (cc)
-depth_at (item j items) zero i is = let e : item_depth j ≡ item_depth i = ap item_depth (let e : j ≡ i = cc in e) in omega (arith, e)
-depth_at (item j items) (suc n) i is = let h = depth_at items n i is in omega (arith, h)
 
 -- an item of the rest has no choice with this site
 pub not_there : (site : ℕ) (xs : List SheetItem) (i : ℕ) (x : SheetItem) → i < length xs → x ≡ get_or xs i x → alts_in_item site (item_seen x) ≡ [] →
@@ -97,7 +93,7 @@ not_found items site before after (Some n) none finds = absurd (true≢false non
 pub room_below : (number : ℕ) (class : Class) (end : Test) (body : Vec SheetItem Global) (xs : List SheetItem) (i : ℕ) (x : SheetItem) → i < length xs →
     x ≡ get_or xs i x → x ≡ Stage number class end body → 1 + items_depth (items_seen body.items) ≤ items_depth (items_seen xs)
 room_below number class end body xs i x lt is stage_there =
-    let deep = depth_at (items_seen xs) i (item_seen x) (tree_at xs i x lt is) in
+    let deep = nth_depth (items_seen xs) i (item_seen x) (tree_at xs i x lt is) in
     let same : item_depth (item_seen x) ≡ 1 + items_depth (items_seen body.items) =
     ap item_depth (ap item_seen stage_there ∙ stage_seen number class end body) in
     omega (arith, deep, same)

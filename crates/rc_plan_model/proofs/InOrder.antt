@@ -2,7 +2,7 @@
 use Rattle.std.proofs.Common.{◌≡◌, ℕ, ◌+◌, ◌<◌, ◌≤◌, Bool, true, false, cond, ◌||◌, ◌&&◌, ◌==◌, List, [], ◌∷◌, ◌++◌, ◌⊎◌, inl, inr, Some, refl, sym, ap, subst, ◌∙◌, arith}
 use Rattle.std.specs.Prelude.{codes, IsTrue, nat_le, nat_lt}
 use Rattle.std.specs.List.{All}
-use Rattle.std.proofs.lemmas.Bool.{eq-eqb, le-leb}
+use Rattle.std.proofs.lemmas.Bool.{eq-eqb, le-leb, and_from, or_right}
 use Rattle.std.proofs.lemmas.List.{append_assoc}
 use Rattle.std.proofs.lemmas.List.Elements.{All-nil, All-cons}
 use Rattle.rc_model.specs.Literal.{natural}
@@ -16,35 +16,27 @@ use Rattle.rc_plan_model.specs.declared.fault.PlanFault.{PlanFault}
 
 -- WHAT IS TOLD FIRST
 
-either : (a b : Bool) → b ≡ true → (a || b) ≡ true
-either true b is = refl
-either false b is = is
-
-both : (a b : Bool) → a ≡ true → b ≡ true → (a && b) ≡ true
-both true b first second = second
-both false b first second = absurd cc
-
 pub by_turn : (fault other : PlanFault) → turn_of fault.kind < turn_of other.kind → is_told_first fault other ≡ true
 by_turn fault other before = ap (λ b. b || (turn_of fault.kind == turn_of other.kind
     && (nat_lt fault.at other.at || (fault.at == other.at && nat_le (rank_of fault.kind) (rank_of other.kind))))) (le-leb _ _ before)
 
 pub by_offset : (fault other : PlanFault) → turn_of fault.kind ≡ turn_of other.kind → fault.at < other.at → is_told_first fault other ≡ true
 by_offset fault other same before =
-    either (nat_lt (turn_of fault.kind) (turn_of other.kind)) _ (both _ _ (eq-eqb (turn_of fault.kind) (turn_of other.kind) same)
+    or_right (nat_lt (turn_of fault.kind) (turn_of other.kind)) _ (and_from _ _ (eq-eqb (turn_of fault.kind) (turn_of other.kind) same)
     (ap (λ b. b || (fault.at == other.at && nat_le (rank_of fault.kind) (rank_of other.kind))) (le-leb _ _ before)))
 
 pub by_rank : (fault other : PlanFault) → turn_of fault.kind ≡ turn_of other.kind → fault.at ≡ other.at
     → rank_of fault.kind ≤ rank_of other.kind → is_told_first fault other ≡ true
 by_rank fault other same here rank =
-    either (nat_lt (turn_of fault.kind) (turn_of other.kind)) _ (both _ _ (eq-eqb (turn_of fault.kind) (turn_of other.kind) same)
-    (either (nat_lt fault.at other.at) _ (both _ _ (eq-eqb fault.at other.at here) (le-leb _ _ rank))))
+    or_right (nat_lt (turn_of fault.kind) (turn_of other.kind)) _ (and_from _ _ (eq-eqb (turn_of fault.kind) (turn_of other.kind) same)
+    (or_right (nat_lt fault.at other.at) _ (and_from _ _ (eq-eqb fault.at other.at here) (le-leb _ _ rank))))
 
 pub itself : (fault : PlanFault) → is_told_first fault fault ≡ true
 itself fault =
     let same : rank_of fault.kind ≤ rank_of fault.kind = omega arith in
-    either (nat_lt (turn_of fault.kind) (turn_of fault.kind)) _
-    (both _ _ (eq-eqb (turn_of fault.kind) (turn_of fault.kind) refl)
-    (either (nat_lt fault.at fault.at) _ (both _ _ (eq-eqb fault.at fault.at refl) (le-leb _ _ same))))
+    or_right (nat_lt (turn_of fault.kind) (turn_of fault.kind)) _
+    (and_from _ _ (eq-eqb (turn_of fault.kind) (turn_of fault.kind) refl)
+    (or_right (nat_lt fault.at fault.at) _ (and_from _ _ (eq-eqb fault.at fault.at refl) (le-leb _ _ same))))
 
 -- this holds of each
 abbrev Each : (PlanFault → Type 0) → List PlanFault → Type 0

@@ -3,9 +3,9 @@ use Rattle.std.proofs.Common.{◌≡◌, ℕ, suc, ◌+◌, ◌-◌, ◌*◌, �
 use Rattle.std.specs.Prelude.{codes, nat_le}
 use Rattle.std.specs.Str.{bytes_eq}
 use Rattle.std.specs.List.{All}
-use Rattle.std.proofs.lemmas.Bool.{le-leb, eq-eqb}
+use Rattle.std.proofs.lemmas.Bool.{le-leb, eq-eqb, and_from}
 use Rattle.std.proofs.lemmas.List.{append-nil}
-use Rattle.std.proofs.lemmas.List.Elements.{All-nil, All-cons}
+use Rattle.std.proofs.lemmas.List.Elements.{All-nil, All-cons, All-head, All-tail}
 use Rattle.std.proofs.lemmas.List.FromFn.{length-map-range_with_len, get_or-map-range_with_len}
 use Rattle.std.proofs.lemmas.Slice.Eq.{bytes_eq-Decides}
 use Rattle.rc_model.specs.Tree.{Tree, word, list, Trees, nil, cons, count, start_of}
@@ -28,17 +28,8 @@ between_holds least most n is = ap (λ b. b && nat_le n most) (le-leb _ _ is.0) 
 no_fault : (b : Bool) (kind : PlanKind) (at : ℕ) → b ≡ true → fault_unless b kind at ≡ []
 no_fault b kind at holds = ap (λ b. fault_unless b kind at) holds
 
-two_holds : (a b : Bool) → a ≡ true → b ≡ true → (a && b) ≡ true
-two_holds a b first second = ap (λ x. x && b) first ∙ second
-
 no_faults : (xs ys : List PlanFault) → xs ≡ [] → ys ≡ [] → xs ++ ys ≡ []
 no_faults xs ys first second = ap (λ xs. xs ++ ys) first ∙ second
-
-All-head : {A : Type 0} (P : A → Type 0) (x : A) (xs : List A) → All P (x ∷ xs) → P x
-All-head P x xs all = all 0 x (omega arith)
-
-All-tail : {A : Type 0} (P : A → Type 0) (x : A) (xs : List A) → All P (x ∷ xs) → All P xs
-All-tail P x xs all k d lt = all (suc k) d (omega (arith, lt))
 
 pub number_is : (n : ℕ) (form : Tree) → Number n form → number_in form ≡ n
 number_is n (word bytes from to) spells = ap spelled spells
@@ -185,7 +176,7 @@ from_fine deals (list (cons head (cons a (cons b (cons c nil)))) from to) stands
     let spells-seats = number_is first.seats b stands.2.1.1.0 in
     let spells-count = number_is n c stands.2.1.1.1.0 in
     let can : is_countable first.deal first.seats n ≡ true =
-    two_holds _ _ (two_holds _ _ (between_holds 1 most_matches n (one, most)) (le-leb _ _ deal)) (le-leb _ _ seats) in (
+    and_from _ _ (and_from _ _ (between_holds 1 most_matches n (one, most)) (le-leb _ _ deal)) (le-leb _ _ seats) in (
       ap (λ h. match true (list (cons h (cons a (cons b (cons c nil)))) from to)) at.2
           ∙ three_fine any_number any_number any_number from a b c
           (any_fine first.deal a stands.2.1.0 (omega (arith, one, deal)))
@@ -260,7 +251,7 @@ matches_fine deals (list (cons head parts) from to) stands between all =
           record {
             first = headed ∙ some_each (match (nat_le (lists_among parts) 1)) from parts many ∙ listed_fine (nat_le (lists_among parts) 1) deals parts listed all;
             counts = once.0;
-            small = λ turns fits. two_holds _ _ (le-leb _ _ (omega (arith, parts_are, most)))
+            small = λ turns fits. and_from _ _ (le-leb _ _ (omega (arith, parts_are, most)))
                 (ap (λ n. nat_le (n * turns) most_turns_in_all) once.1 ∙ le-leb _ _ fits);
           }
       by_kind nil many (inr counted) headed = absurd counted

@@ -21,7 +21,7 @@ use Rattle.rc_play_model.proofs.FrameRanges.{AreParts, Frames, item_parts, aroun
 use Rattle.rc_play_model.proofs.ReachedLemmas.{decision_at_site}
 use Rattle.rc_play_model.proofs.SiteLemmas.{left_at_there}
 
-zeros : (n turn : ℕ) → AllByRecursion (λ m. m ≤ turn) (replicate n 0)
+pub zeros : (n turn : ℕ) → AllByRecursion (λ m. m ≤ turn) (replicate n 0)
 zeros zero turn = tt
 zeros (suc n) turn = (omega arith, zeros n turn)
 

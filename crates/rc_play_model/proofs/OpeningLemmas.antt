@@ -23,7 +23,7 @@ use Rattle.rc_play_model.proofs.Counting.{passing-is, kept, left_out, once_below
 use Rattle.rc_play_model.proofs.MarkLemmas.{no_seats, none_marked, none_hides}
 use Rattle.rc_play_model.proofs.Places.{place_within, place_stands}
 
-differs : (a b : ℕ) (c : Bool) → (a == b) ≡ c → (a ≡ b → ⊥) → (a == b) ≡ false
+pub differs : (a b : ℕ) (c : Bool) → (a == b) ≡ c → (a ≡ b → ⊥) → (a == b) ≡ false
 differs a b true e never = absurd (never ((Decides-eqb a b).0 e))
 differs a b false e never = e
 

@@ -2,10 +2,10 @@
 use Rattle.std.proofs.Common.{◌≡◌, ℕ, zero, suc, ◌+◌, ◌<◌, List, [], ◌∷◌, ◌++◌, length, get_or, take, map, Some, None, slice_get, arith, refl, sym, ap, ◌∙◌, ℤ, pos, ◌+ℤ◌, cond}
 use Rattle.std.specs.List.{fold, range_with_len}
 use Rattle.std.proofs.lemmas.List.{take_more, map-append}
-use Rattle.std.proofs.lemmas.Int.{ints, clamps}
 use Rattle.rc_model.specs.Numbers.{below}
-use Rattle.rc_model.specs.Clamp.{clamped, IsWithinClamp}
-use Rattle.rc_model.specs.Deck.{Entry, Face, fits_entry, points_of}
+use Rattle.rc_model.specs.Clamp.{clamped}
+use Rattle.rc_model.specs.Deck.{Entry, fits_entry, points_of}
+use Rattle.rc_play_model.proofs.SiteLemmas.{unwrap}
 
 -- one card more
 pub row_more : {A B : Type 0} (f : A → B) (d : A) (xs : List A) (done done' : List B) (i : ℕ) (b : B) → i < length xs → b ≡ f (get_or xs i d) →
@@ -20,13 +20,9 @@ in_row f d e same [] i = same
 in_row f d e same (x ∷ xs) zero = refl
 in_row f d e same (x ∷ xs) (suc i) = in_row f d e same xs i
 
--- the row that stands at a place
-some_same : {A : Type 0} (a b : A) → Some a ≡ Some b → a ≡ b
-some_same a b e = cc
-
 ranged : {B : Type 0} (f : ℕ → B) (a len n : ℕ) (b : B) → Some b ≡ slice_get (map f (range_with_len a len)) n → b ≡ f (a + n)
 ranged f a zero n b is = absurd (cc)
-ranged f a (suc len) zero b is = some_same b (f a) is ∙ ap f (omega arith)
+ranged f a (suc len) zero b is = unwrap b (f a) is ∙ ap f (omega arith)
 ranged f a (suc len) (suc n) b is = ranged f (a + 1) len n b is ∙ ap f (omega arith)
 
 pub row_below : {B : Type 0} (f : ℕ → B) (len n : ℕ) (b : B) → Some b ≡ slice_get (map f (below len)) n → b ≡ f n
@@ -34,19 +30,13 @@ row_below f len n b is = ranged f 0 len n b is ∙ ap f (omega arith)
 
 pub row_found : {A B : Type 0} (f : A → B) (d : A) (xs : List A) (n : ℕ) (b : B) → Some b ≡ slice_get (map f xs) n → b ≡ f (get_or xs n d)
 row_found f d [] n b is = absurd (cc)
-row_found f d (x ∷ xs) zero b is = some_same b (f x) is
+row_found f d (x ∷ xs) zero b is = unwrap b (f x) is
 row_found f d (x ∷ xs) (suc n) b is = row_found f d xs n b is
 
 pub row_missing : {A B : Type 0} (f : A → B) (d : A) (xs : List A) (n : ℕ) → None ≡ slice_get (map f xs) n → d ≡ get_or xs n d
 row_missing f d [] n is = refl
 row_missing f d (x ∷ xs) zero is = absurd (cc)
 row_missing f d (x ∷ xs) (suc n) is = row_missing f d xs n is
-
-pub clamped_within : (z : ℤ) → IsWithinClamp (clamped z)
-clamped_within z = (omega (arith, ints, clamps), omega (arith, ints, clamps))
-
-pub points_within : (entries : List Entry) (face : Face) → IsWithinClamp (points_of entries face)
-points_within entries face = clamped_within (fold ◌+ℤ◌ (pos 0) (map (λ entry. cond (fits_entry entry face) entry.points (pos 0)) entries))
 
 -- what has no face is worth nothing
 nothing : (entries : List Entry) → fold ◌+ℤ◌ (pos 0) (map (λ e. cond (fits_entry e []) e.points (pos 0)) entries) ≡ pos 0

@@ -1,6 +1,6 @@
 -- Matches in which a search plays: each pick is what its seat chooses, and the picks lead to the end.
-use Rattle.std.proofs.Common.{◌≡◌, ℕ, ◌<◌, ◌==◌, Bool, true, false, if◌then◌else◌, List, [], ◌∷◌, length, slice_get, Option, Some, refl, sym, ap, ◌∙◌, arith}
-use Rattle.std.specs.Prelude.{filter_map, option_map}
+use Rattle.std.proofs.Common.{◌≡◌, ℕ, ◌<◌, ◌==◌, Bool, true, false, if◌then◌else◌, length, slice_get, Some, refl, sym, ap, ◌∙◌, arith}
+use Rattle.std.specs.Prelude.{option_map}
 use Rattle.std.proofs.lemmas.Bool.Decides.{Decides-eqb}
 use Rattle.std.proofs.lemmas.List.{length-map}
 use Rattle.std.proofs.lemmas.List.FromFn.{length-range_with_len}
@@ -18,19 +18,19 @@ use Rattle.rc_play_model.specs.Strategy.{menu_size}
 use Rattle.rc_play_model.specs.Keyed.{dealing_of, choice_of, reached_in}
 use Rattle.rc_play_model.specs.MatchLaws.{first_items}
 use Rattle.rc_play_model.proofs.Alike.{equal_views}
-use Rattle.rc_play_model.proofs.ChoiceLemmas.{choice-lt}
+use Rattle.rc_play_model.proofs.ChoiceLemmas.{choice-lt, first_largest-lt}
 use Rattle.rc_play_model.proofs.NextLemmas.{pick_taken}
 use Rattle.rc_play_model.proofs.PlayLemmas.{play_ends}
+use Rattle.rc_play_model.proofs.MatchLemmas.{each_kept}
 use Rattle.rc_search_model.specs.Search.{Rival, searched, total, totals}
 use Rattle.rc_search_model.specs.Rivals.{rival_choice, rival_chooser, rival_play, rival_match}
 use Rattle.rc_search_model.specs.RivalLaws.{SearchesItems, EachRivalRecorded, AlikeSameSearches}
-use Rattle.rc_search_model.proofs.BestPoints.{largest_place}
 
 pub searched-lt : SearchesItems
 searched-lt about rival seed view some =
     let long = length-map (below (menu_size about view)) (total about rival seed view) in
     let count = length-range_with_len 0 (menu_size about view) in
-    let h = largest_place (totals about rival seed view) (omega (arith, some, long, count)) in omega (arith, h, long, count)
+    let h = first_largest-lt (totals about rival seed view) (omega (arith, some, long, count)) in omega (arith, h, long, count)
 
 module _ (about : About) (rival : Rival) (plan : Plan) (m : ℕ) where
   abbrev dealing : Dealing ℕ
@@ -56,16 +56,6 @@ module _ (about : About) (rival : Rival) (plan : Plan) (m : ℕ) where
     by : (b : Bool) → (if b then searched about rival (deal_at plan m).seats view else choice_of about (strategy_at plan m seat) (deal_at plan m).seats view) < menu_size about view
     by true = searched-lt about rival (deal_at plan m).seats view some
     by false = choice-lt about (strategy_at plan m seat) (deal_at plan m).seats view some
-
--- a list of which each item has a value
-each_kept : {A B : Type 0} (f : A → Option B) (xs : List A) → ((x : A) → (b : B) × (f x ≡ Some b)) → length (filter_map f xs) ≡ length xs
-each_kept f [] each = refl
-each_kept f (x ∷ xs) each =
-    let rest = each_kept f xs each in
-    kept_here f x xs rest (f x) refl (each x).1 where
-      kept_here : {A B : Type 0} (f : A → Option B) (x : A) (xs : List A) → length (filter_map f xs) ≡ length xs → (o : Option B) → f x ≡ o →
-          {b : B} → f x ≡ Some b → length (filter_map f (x ∷ xs)) ≡ length (x ∷ xs)
-      kept_here f x xs rest o is e = rw e (omega (arith, rest))
 
 pub each_recorded : EachRivalRecorded
 each_recorded about rival plan =

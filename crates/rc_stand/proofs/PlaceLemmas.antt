@@ -1,7 +1,7 @@
 -- Places in the code as stages open and close, and how many are open.
 use Rattle.std.proofs.Common.{◌≡◌, ℕ, ◌<◌, ◌≤◌, false, List, [], ◌∷◌, ◌++◌, length, drop, reverse, slice_get, Some, All, refl, sym, ap, subst, true≢false, arith, length-append}
 use Rattle.std.proofs.lemmas.List.{length-map, length-reverse}
-use Rattle.rc_sheet_model.specs.Sheet.{SheetItem, Class, Test}
+use Rattle.rc_sheet_model.specs.Sheet.{Class, Test}
 use Rattle.rc_play_model.specs.Control.{Frame, Control}
 use Rattle.rc_play_model.specs.Table.{Table}
 use Rattle.rc_play_model.specs.Effects.{Dealing}
@@ -9,7 +9,7 @@ use Rattle.rc_play_model.specs.Step.{Stage, Part, todos, goes, step}
 use Rattle.rc_play_model.specs.Decision.{choose}
 use Rattle.rc_play_model.specs.Path.{Path}
 use Rattle.rc_play_model.specs.Fits.{around}
-use Rattle.rc_play_model.proofs.FrameLemmas.{step_frames, choice_frames}
+use Rattle.rc_play_model.proofs.FrameLemmas.{step_frames, choice_frames, around-todos}
 use Rattle.rc_code.specs.Instruction.{Instruction, begin_stage}
 use Rattle.rc_code.specs.Meaning.{items_from, stage_at, behind_at, left_behind}
 use Rattle.rc_code.proofs.LeftLemmas.{left_here, left_stage}
@@ -34,11 +34,6 @@ module _ (code : List Instruction) where
   last_is : (outer : List ℕ) (place : ℕ) → AreStages code (outer ++ place ∷ []) → IsStageAt code place
   last_is [] place are = are.0
   last_is (p ∷ outer) place are = last_is outer place are.1
-
--- so many are open
-around-todos : (items : List SheetItem) (rest : List Part) → around (todos items ++ rest) ≡ around rest
-around-todos [] rest = refl
-around-todos (i ∷ items) rest = around-todos items rest
 
 around_behind : (code : List Instruction) (inner : List ℕ) → length (around (left_behind code inner)) ≡ length inner
 around_behind code [] = refl

@@ -1,5 +1,5 @@
 -- The lists of the start, one card after another.
-use Rattle.std.proofs.Common.{◌≡◌, ℕ, zero, suc, ◌+◌, ◌<◌, ◌≤◌, ◌==◌, Bool, true, false, cond, List, [], ◌∷◌, ◌++◌, length, map, get_or, set, replicate, slice_index, refl, sym, ap, ap₂, ◌∙◌, arith, append-nil}
+use Rattle.std.proofs.Common.{◌≡◌, ℕ, zero, suc, ◌+◌, ◌<◌, ◌≤◌, ◌==◌, cond, List, [], ◌∷◌, ◌++◌, length, map, get_or, set, replicate, slice_index, refl, sym, ap, ap₂, ◌∙◌, arith, append-nil}
 use Rattle.std.specs.Prelude.{filter}
 use Rattle.std.specs.List.{range_with_len}
 use Rattle.std.proofs.lemmas.Bool.{cond-false}
@@ -11,6 +11,7 @@ use Rattle.std.proofs.lemmas.Option.{slice_get_within}
 use Rattle.rc_model.specs.Numbers.{below}
 use Rattle.rc_play_model.specs.Shape.{Shape}
 use Rattle.rc_play_model.specs.Bound.{HasHomes}
+use Rattle.rc_play_model.proofs.OpeningLemmas.{differs}
 use Rattle.rc_table.specs.Laid.{rooms}
 use Rattle.rc_table.proofs.Held.{room_at}
 use Rattle.rc_table.proofs.WhereaboutLemmas.{no_references}
@@ -37,15 +38,11 @@ begun_here : (home : List ℕ) (n loc : ℕ) → slice_index home n ≡ loc → 
 begun_here home n loc is =
     begun_push home n loc ∙ ap (λ b. begun home n loc ++ cond b (n ∷ []) []) ((Decides-eqb (slice_index home n) loc).1 is)
 
-other_home : (a b : ℕ) (c : Bool) → (a == b) ≡ c → (a ≡ b → ⊥) → (a == b) ≡ false
-other_home a b true e never = absurd (never ((Decides-eqb a b).0 e))
-other_home a b false e never = e
-
 begun_elsewhere : (home : List ℕ) (n loc : ℕ) → (slice_index home n ≡ loc → ⊥) → begun home (n + 1) loc ≡ begun home n loc
 begun_elsewhere home n loc never =
     let h = slice_index home n in
     begun_push home n loc
-    ∙ ap (λ b. begun home n loc ++ cond b (n ∷ []) []) (other_home h loc (h == loc) refl never) ∙ append-nil (begun home n loc)
+    ∙ ap (λ b. begun home n loc ++ cond b (n ∷ []) []) (differs h loc (h == loc) refl never) ∙ append-nil (begun home n loc)
 
 past : (home : List ℕ) (n a count : ℕ) → slice_index home n < a →
     map (begun home (n + 1)) (range_with_len a count) ≡ map (begun home n) (range_with_len a count)

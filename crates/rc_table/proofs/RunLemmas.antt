@@ -14,6 +14,7 @@ use Rattle.rc_play_model.specs.Effects.{put}
 use Rattle.rc_play_model.specs.TableLaws.{PutKeepsSound}
 use Rattle.rc_play_model.proofs.OnePlace.{is_card, one_place}
 use Rattle.std.proofs.lemmas.Option.{slice_get_within}
+use Rattle.rc_play_model.proofs.OpeningLemmas.{differs}
 use Rattle.rc_table.specs.Runs.{put_each, all_added, left_out, run_moved, run_put, is_free, flagged, AreFresh}
 use Rattle.rc_table.proofs.WhereaboutLemmas.{stands_there}
 
@@ -27,12 +28,8 @@ added bottom id list = id ∷ list
 same_id : (a b : ℕ) → a ≡ b → (a == b) ≡ true
 same_id a b is = (Decides-eqb a b).1 is
 
-differ_by : (a b : ℕ) (c : Bool) → (a == b) ≡ c → (a ≡ b → ⊥) → (a == b) ≡ false
-differ_by a b true e never = absurd (never ((Decides-eqb a b).0 e))
-differ_by a b false e never = e
-
 differ : (a b : ℕ) → (a ≡ b → ⊥) → (a == b) ≡ false
-differ a b never = differ_by a b (a == b) refl never
+differ a b never = differs a b (a == b) refl never
 
 -- LISTS WITHOUT AN ID
 

@@ -1,10 +1,11 @@
 -- What a field reads is what it writes.
-use Rattle.std.proofs.Common.{◌≡◌, ◌≢◌, ℕ, zero, suc, ◌+◌, ◌-◌, ◌*◌, ◌/◌, ◌%◌, ◌^◌, ◌<◌, ◌≤◌, nat_le, ◌==◌, Bool, true, false, if◌then◌else◌, ◌&&◌, List, [], ◌∷◌, ◌++◌, Option, Some, None, Result, Ok, ℤ, pos, negsuc, neg_ℤ, decimal, refl, sym, ap, ◌∙◌, subst, append_assoc, append-nil, arith, eqb-true, eq-eqb, ne_eqb, le-leb, leb-true, le→leb, leb→le, ◌⊎◌, inl, inr}
+use Rattle.std.proofs.Common.{◌≡◌, ◌≢◌, ℕ, zero, suc, ◌+◌, ◌-◌, ◌*◌, ◌/◌, ◌%◌, ◌^◌, ◌<◌, ◌≤◌, nat_le, ◌==◌, Bool, true, false, if◌then◌else◌, List, [], ◌∷◌, ◌++◌, Option, Some, None, Result, Ok, ℤ, pos, negsuc, neg_ℤ, decimal, refl, sym, ap, ◌∙◌, subst, append_assoc, append-nil, arith, eqb-true, eq-eqb, ne_eqb, le-leb, leb-true, le→leb, leb→le, ◌⊎◌, inl, inr}
 use Rattle.std.specs.Fmt.{signed_decimal}
 use Rattle.std.proofs.lemmas.Bool.{eqb-false}
 use Rattle.std.proofs.lemmas.Fmt.{decimal_step, decimal_digit, decimal_by_steps}
 use Rattle.rc_model.specs.Literal.{is_digit}
 use Rattle.rc_model.specs.Clamp.{IsWithinClamp, largest_number}
+use Rattle.rc_play_model.proofs.Faces.{both_true}
 use Rattle.rc_text_model.specs.Fields.{◌>>=◌, behind, digits_to, number_to, at_least_one, as_positive, as_negative, integer_to, number, counted, integer, last, ◌or_else◌}
 
 -- the value of a step that found something
@@ -59,12 +60,8 @@ behind_again (w ∷ word) rest = rw (eq-eqb w w refl) (behind_again word rest)
 is_digit-true : (b : ℕ) → 48 ≤ b → b ≤ 57 → is_digit b ≡ true
 is_digit-true b low high = rw (le-leb 48 b low, le-leb b 57 high) refl
 
-and_true : (a b : Bool) → (a && b) ≡ true → (a ≡ true) × (b ≡ true)
-and_true true b e = (refl, e)
-and_true false b e = absurd cc
-
 digit_range : (b : ℕ) → is_digit b ≡ true → (48 ≤ b) × (b ≤ 57)
-digit_range b e = let a = and_true (nat_le 48 b) (nat_le b 57) e in (leb-true 48 b a.0, leb-true b 57 a.1)
+digit_range b e = let a = both_true (nat_le 48 b) (nat_le b 57) e in (leb-true 48 b a.0, leb-true b 57 a.1)
 
 one_digit : (n b : ℕ) → 0 < n → 48 ≤ b → b ≤ 57 → n * 10 + (b - 48) < 2 ^ 64 → decimal (n * 10 + (b - 48)) ≡ decimal n ++ b ∷ []
 one_digit n b some low high lt =

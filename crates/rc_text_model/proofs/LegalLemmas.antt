@@ -1,7 +1,7 @@
 -- A text has no illegal line exactly where it is legal: by the rows, and then by the parts of a text.
 use Rattle.std.proofs.Common.{◌≡◌, ◌≢◌, ℕ, zero, suc, ◌+◌, ◌<◌, ◌≤◌, ◌==◌, nat_lt, Bool, true, false, not, if◌then◌else◌, ◌&&◌, ◌||◌, List, [], ◌∷◌, ◌++◌, append_assoc, append-nil, length, slice_get, Option, Some, None, Ok, Err, refl, sym, ap, ◌∙◌, subst, arith, eqb-true, ltb-true, ltb-false}
 use Rattle.std.specs.Ordering.{int_eq}
-use Rattle.std.proofs.lemmas.Bool.{eq-eqb, lt-ltb, le-ltb}
+use Rattle.std.proofs.lemmas.Bool.{eq-eqb, lt-ltb, le-ltb, and_from}
 use Rattle.std.proofs.lemmas.Bool.Decides.{Decides-int_eq}
 use Rattle.std.proofs.lemmas.List.{length-append}
 use Rattle.std.proofs.lemmas.List.FromFn.{length-map-range_with_len}
@@ -23,6 +23,7 @@ use Rattle.rc_play_model.specs.Scores.{scores_of, score_at}
 use Rattle.rc_play_model.specs.Plan.{Plan, deal_at}
 use Rattle.rc_play_model.specs.House.{standings_of}
 use Rattle.rc_play_model.proofs.StopLemmas.{comes_to_stop}
+use Rattle.rc_play_model.proofs.Faces.{both_true}
 use Rattle.rc_text_model.specs.Why.{Why, Illegal, by_match, by_shuffle, by_seat, by_menu, by_item, by_name, by_end, by_score, by_standing}
 use Rattle.rc_text_model.specs.Rows.{unless, ◌or◌, has_ended, is_ending, lacking_row, opening_row, decision_row, stopped_row, named_row, chosen_row, shuffled_row, ending_row, is_score, is_the_score, scores_at, scored_row, is_standing, is_the_standing, further_row, ranked_row, end_row}
 use Rattle.rc_text_model.specs.Judged.{at_line, play_after}
@@ -32,7 +33,7 @@ use Rattle.rc_text_model.proofs.FieldLemmas.{ok_is, if_true}
 pub use Rattle.rc_text_model.proofs.FieldLemmas.{some_is}
 use Rattle.rc_text_model.proofs.Marks.{bounds_are, bounds_themselves}
 use Rattle.rc_text_model.proofs.Fitting.{picks_in, enough_marks, no_more_marks, never_marks}
-use Rattle.rc_text_model.proofs.Rows.{unless_none, or_none, both, on_row_ok, and_ok, or_ok, at_line_none}
+use Rattle.rc_text_model.proofs.Rows.{unless_none, or_none, on_row_ok, and_ok, or_ok, at_line_none}
 
 -- ---- where no row applies, judging goes on
 
@@ -43,10 +44,6 @@ unless_true false w e = absurd cc
 pub neither : (a b : Option Why) → a ≡ None → b ≡ None → (a or b) ≡ None
 neither None b e f = f
 neither (Some w) b e f = absurd cc
-
-both_true : (a b : Bool) → a ≡ true → b ≡ true → (a && b) ≡ true
-both_true true b e f = f
-both_true false b e f = absurd cc
 
 pub on_row_none : {A : Type 0} (n : ℕ) (o : Option Why) (later : Judging A) → o ≡ None → on_row n o later ≡ later
 on_row_none n None later e = refl
@@ -118,8 +115,8 @@ stand_there (x ∷ xs) = (refl, one_later x xs 0 xs (stand_there xs))
 
 score_is : (s t : Score) → is_score s t ≡ true → t ≡ s
 score_is s t e =
-    let a = both (s.player == t.player && int_eq s.score t.score) (s.points == t.points) e in
-    let b = both (s.player == t.player) (int_eq s.score t.score) a.0 in
+    let a = both_true (s.player == t.player && int_eq s.score t.score) (s.points == t.points) e in
+    let b = both_true (s.player == t.player) (int_eq s.score t.score) a.0 in
     let player : s.player ≡ t.player = eqb-true s.player t.player b.0 in
     let score : s.score ≡ t.score = (Decides-int_eq s.score t.score).0 b.1 in
     let points : s.points ≡ t.points = eqb-true s.points t.points a.1 in
@@ -127,8 +124,8 @@ score_is s t e =
 
 score_itself : (s : Score) → is_score s s ≡ true
 score_itself s =
-    both_true (s.player == s.player && int_eq s.score s.score) (s.points == s.points)
-    (both_true (s.player == s.player) (int_eq s.score s.score) (eq-eqb s.player s.player refl) ((Decides-int_eq s.score s.score).1 refl))
+    and_from (s.player == s.player && int_eq s.score s.score) (s.points == s.points)
+    (and_from (s.player == s.player) (int_eq s.score s.score) (eq-eqb s.player s.player refl) ((Decides-int_eq s.score s.score).1 refl))
     (eq-eqb s.points s.points refl)
 
 the_score : (s : Score) (o : Option Score) → is_the_score s o ≡ true → o ≡ Some s
@@ -140,8 +137,8 @@ score_there s o e = ap (is_the_score s) e ∙ score_itself s
 
 standing_is : (s t : Standing) → is_standing s t ≡ true → t ≡ s
 standing_is s t e =
-    let a = both (s.place == t.place && s.strategy == t.strategy) (s.points == t.points) e in
-    let b = both (s.place == t.place) (s.strategy == t.strategy) a.0 in
+    let a = both_true (s.place == t.place && s.strategy == t.strategy) (s.points == t.points) e in
+    let b = both_true (s.place == t.place) (s.strategy == t.strategy) a.0 in
     let place : s.place ≡ t.place = eqb-true s.place t.place b.0 in
     let strategy : s.strategy ≡ t.strategy = eqb-true s.strategy t.strategy b.1 in
     let points : s.points ≡ t.points = eqb-true s.points t.points a.1 in
@@ -149,8 +146,8 @@ standing_is s t e =
 
 standing_itself : (s : Standing) → is_standing s s ≡ true
 standing_itself s =
-    both_true (s.place == s.place && s.strategy == s.strategy) (s.points == s.points)
-    (both_true (s.place == s.place) (s.strategy == s.strategy) (eq-eqb s.place s.place refl) (eq-eqb s.strategy s.strategy refl))
+    and_from (s.place == s.place && s.strategy == s.strategy) (s.points == s.points)
+    (and_from (s.place == s.place) (s.strategy == s.strategy) (eq-eqb s.place s.place refl) (eq-eqb s.strategy s.strategy refl))
     (eq-eqb s.points s.points refl)
 
 the_standing : (s : Standing) (o : Option Standing) → is_the_standing s o ≡ true → o ≡ Some s
@@ -231,7 +228,7 @@ end_forth about n at r x e =
     let a = or_none (unless (has_ended at.stop) by_end or unless (not (r.shuffles == 0) || at.dealer == 0) by_shuffle)
     (unless (is_ending r.ending at.stop && r.turn == at.config.control.turn) by_end) end.0 in
     let b = or_none (unless (has_ended at.stop) by_end) (unless (not (r.shuffles == 0) || at.dealer == 0) by_shuffle) a.0 in
-    let c = both (is_ending r.ending at.stop) (r.turn == at.config.control.turn) (unless_none _ by_end a.1) in
+    let c = both_true (is_ending r.ending at.stop) (r.turn == at.config.control.turn) (unless_none _ by_end a.1) in
     record {
       stop = ending_is r.ending at.stop c.0;
       shuffles = told_forth (r.shuffles == 0) n r.shuffles at told.0 refl told.1 (unless_none _ by_shuffle b.1);
@@ -253,7 +250,7 @@ end_back about n at r tells =
     (neither (unless (has_ended at.stop) by_end) (unless (not (r.shuffles == 0) || at.dealer == 0) by_shuffle)
     (unless_true _ by_end ended) (unless_true _ by_shuffle (told_same r.shuffles at.dealer tells.shuffles)))
     (unless_true _ by_end
-    (both_true (is_ending r.ending at.stop) (r.turn == at.config.control.turn) (ap (is_ending r.ending) tells.stop ∙ itself.1) (eq-eqb r.turn at.config.control.turn tells.turn))) in (
+    (and_from (is_ending r.ending at.stop) (r.turn == at.config.control.turn) (ap (is_ending r.ending) tells.stop ∙ itself.1) (eq-eqb r.turn at.config.control.turn tells.turn))) in (
       later.0,
       and_on (told_along n (Some at) r.shuffles) (λ n'. on_row n' row (scores n')) told.0 told.1
           ∙ on_row_none told.0 row (scores told.0) none ∙ later.1,
@@ -297,18 +294,18 @@ standings_back plan n matches k (s ∷ standings) all are le =
 opening_forth : (plan : Plan) (m : ℕ) (r : Record) → opening_row plan m r.number r.deal r.seats ≡ None →
     (m < length plan.matches) × (r.number ≡ m) × (r.deal ≡ (deal_at plan m).deal) × (r.seats ≡ (deal_at plan m).seats)
 opening_forth plan m r e =
-    let a = both (nat_lt m (length plan.matches) && r.number == m && r.deal == (deal_at plan m).deal) (r.seats == (deal_at plan m).seats) (unless_none _ by_match e) in
-    let b = both (nat_lt m (length plan.matches) && r.number == m) (r.deal == (deal_at plan m).deal) a.0 in
-    let c = both (nat_lt m (length plan.matches)) (r.number == m) b.0 in
+    let a = both_true (nat_lt m (length plan.matches) && r.number == m && r.deal == (deal_at plan m).deal) (r.seats == (deal_at plan m).seats) (unless_none _ by_match e) in
+    let b = both_true (nat_lt m (length plan.matches) && r.number == m) (r.deal == (deal_at plan m).deal) a.0 in
+    let c = both_true (nat_lt m (length plan.matches)) (r.number == m) b.0 in
     (ltb-true m (length plan.matches) c.0, eqb-true r.number m c.1, eqb-true r.deal (deal_at plan m).deal b.1, eqb-true r.seats (deal_at plan m).seats a.1)
 
 opening_back : (plan : Plan) (m : ℕ) (r : Record) → m < length plan.matches → r.number ≡ m → r.deal ≡ (deal_at plan m).deal → r.seats ≡ (deal_at plan m).seats →
     opening_row plan m r.number r.deal r.seats ≡ None
 opening_back plan m r lt number deal seats =
     unless_true _ by_match
-    (both_true (nat_lt m (length plan.matches) && r.number == m && r.deal == (deal_at plan m).deal) (r.seats == (deal_at plan m).seats)
-    (both_true (nat_lt m (length plan.matches) && r.number == m) (r.deal == (deal_at plan m).deal)
-    (both_true (nat_lt m (length plan.matches)) (r.number == m) (lt-ltb m (length plan.matches) lt) (eq-eqb r.number m number))
+    (and_from (nat_lt m (length plan.matches) && r.number == m && r.deal == (deal_at plan m).deal) (r.seats == (deal_at plan m).seats)
+    (and_from (nat_lt m (length plan.matches) && r.number == m) (r.deal == (deal_at plan m).deal)
+    (and_from (nat_lt m (length plan.matches)) (r.number == m) (lt-ltb m (length plan.matches) lt) (eq-eqb r.number m number))
     (eq-eqb r.deal (deal_at plan m).deal deal))
     (eq-eqb r.seats (deal_at plan m).seats seats))
 
@@ -349,7 +346,7 @@ made_forth about p (decide seat site) c e =
     let size = length (menu_at about site c.table c.control) in
     let a = or_none (unless (p.seat == seat && p.site == site) by_seat or unless (p.size == size) by_menu) (unless (nat_lt p.item p.size) by_item) e in
     let b = or_none (unless (p.seat == seat && p.site == site) by_seat) (unless (p.size == size) by_menu) a.0 in
-    let s = both (p.seat == seat) (p.site == site) (unless_none _ by_seat b.0) in
+    let s = both_true (p.seat == seat) (p.site == site) (unless_none _ by_seat b.0) in
     let seat-is : p.seat ≡ seat = eqb-true p.seat seat s.0 in
     let site-is : p.site ≡ site = eqb-true p.site site s.1 in
     let size-is : p.size ≡ size = eqb-true p.size size (unless_none _ by_menu b.1) in
@@ -367,7 +364,7 @@ made_back about p (decide seat site) c made =
     let size-is : p.size ≡ size = ap (λ (p : Pick). p.size) made.0 in
     neither (unless (p.seat == seat && p.site == site) by_seat or unless (p.size == size) by_menu) (unless (nat_lt p.item p.size) by_item)
     (neither (unless (p.seat == seat && p.site == site) by_seat) (unless (p.size == size) by_menu)
-    (unless_true _ by_seat (both_true (p.seat == seat) (p.site == site) (eq-eqb p.seat seat seat-is) (eq-eqb p.site site site-is)))
+    (unless_true _ by_seat (and_from (p.seat == seat) (p.site == site) (eq-eqb p.seat seat seat-is) (eq-eqb p.site site site-is)))
     (unless_true _ by_menu (eq-eqb p.size size size-is)))
     (unless_true _ by_item (lt-ltb p.item p.size made.1))
 

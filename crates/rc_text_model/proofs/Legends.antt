@@ -9,11 +9,11 @@ use Rattle.rc_play_model.specs.Shape.{Shape, face_at, face_number}
 use Rattle.std.proofs.lemmas.Bool.{cond-true, cond-false}
 use Rattle.rc_model.specs.Numbers.{below}
 use Rattle.rc_play_model.proofs.CardLemmas.{get_each}
+use Rattle.rc_play_model.proofs.Faces.{both_true}
 use Rattle.rc_text_model.specs.HouseText.{IsOneLine}
 use Rattle.rc_text_model.specs.Naming.{word_at, pair_text, face_line, face_numbers, legend_of}
 use Rattle.rc_text_model.specs.LineGrammar.{lines_in}
 use Rattle.rc_text_model.proofs.LineCuts.{IsOneLine-append, digits_one, cut_lines}
-use Rattle.rc_text_model.proofs.Rows.{both}
 
 part_case : (ends : Bool) (b : ℕ) → (b == 10) ≡ ends → is_part b ≡ true → (b == 10) ≡ false
 part_case false b is part = is
@@ -21,14 +21,14 @@ part_case true b is part = let no : is_part 10 ≡ true = ap is_part (sym (eqb-t
 
 word_one : (w : List ℕ) → list_all is_part w ≡ true → IsOneLine w
 word_one [] e = tt
-word_one (b ∷ w) e = let parts = both (is_part b) (list_all is_part w) e in (part_case (b == 10) b refl parts.0, word_one w parts.1)
+word_one (b ∷ w) e = let parts = both_true (is_part b) (list_all is_part w) e in (part_case (b == 10) b refl parts.0, word_one w parts.1)
 
 words_one : (ws : List (List ℕ)) → list_all is_plain_word ws ≡ true → AllByRecursion IsOneLine ws
 words_one [] e = tt
 words_one (w ∷ ws) e =
-    let parts = both (is_plain_word w) (list_all is_plain_word ws) e in
-    let word = both (is_atom w) _ parts.0 in
-    let atom = both _ (list_all is_part w) word.0 in
+    let parts = both_true (is_plain_word w) (list_all is_plain_word ws) e in
+    let word = both_true (is_atom w) _ parts.0 in
+    let atom = both_true _ (list_all is_part w) word.0 in
     (word_one w atom.1, words_one ws parts.1)
 
 module _ (sheet : Sheet) (words : HasWords sheet) where

@@ -4,9 +4,9 @@ use Rattle.std.specs.List.{AllByRecursion}
 use Rattle.std.proofs.lemmas.Bool.{eq-eqb}
 use Rattle.rc_text_model.specs.Fields.{◌>>=◌, number, ◌or_else◌}
 use Rattle.rc_play_model.specs.ItemBounds.{Bound, player, card, group}
+use Rattle.rc_play_model.proofs.Faces.{both_true}
 use Rattle.rc_text_model.specs.Bounds.{mark_text, IsMark, player_in, card_in, group_in, mark_in, marks_in, is_bound, are_bounds}
 use Rattle.rc_text_model.proofs.FieldLemmas.{bind_some, bind_is, some_is, number-only, number-again, either, IsStop}
-use Rattle.rc_text_model.proofs.Rows.{both}
 
 abbrev IsMarkIn : List ℕ → Bound × List ℕ → Type 0
 IsMarkIn bytes x = IsMark x.0 × (bytes ≡ mark_text x.0 ++ x.1)
@@ -121,7 +121,7 @@ bounds_are [] [] e = refl
 bounds_are [] (b ∷ bs) e = absurd cc
 bounds_are (a ∷ xs) [] e = absurd cc
 bounds_are (a ∷ xs) (b ∷ bs) e =
-    let parts = both (is_bound a b) (are_bounds xs bs) e in
+    let parts = both_true (is_bound a b) (are_bounds xs bs) e in
     let one = bound_is a b parts.0 in
     let more = bounds_are xs bs parts.1 in
     λ i. one i ∷ more i

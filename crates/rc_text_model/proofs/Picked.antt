@@ -1,5 +1,5 @@
 -- The choices of a match are in the ranges of their lines.
-use Rattle.std.proofs.Common.{◌≡◌, ℕ, zero, suc, ◌≤◌, ◌<◌, List, [], ◌∷◌, length, get_or, take, map, replicate, Some, sym, ap, ◌∙◌, subst, arith, append-nil}
+use Rattle.std.proofs.Common.{◌≡◌, ℕ, ◌≤◌, ◌<◌, List, [], ◌∷◌, length, get_or, take, map, Some, sym, ap, ◌∙◌, subst, arith, append-nil}
 use Rattle.std.specs.Prelude.{All}
 use Rattle.std.specs.List.{AllByRecursion}
 use Rattle.std.proofs.lemmas.List.{length-map, length-take, length-replicate}
@@ -22,7 +22,7 @@ use Rattle.rc_play_model.specs.Play.{Played, pick_at, reached}
 use Rattle.rc_play_model.specs.Plan.{Plan, deal_at}
 use Rattle.rc_play_model.specs.Keyed.{dealing_of, chooser_of, keyed_play}
 use Rattle.rc_play_model.proofs.CardLemmas.{append_each}
-use Rattle.rc_play_model.proofs.ControlLemmas.{control_fits}
+use Rattle.rc_play_model.proofs.ControlLemmas.{control_fits, zeros}
 use Rattle.rc_play_model.proofs.FitLemmas.{keyed_fit, keyed_leads}
 use Rattle.rc_play_model.proofs.FrontLemmas.{front_reached}
 use Rattle.rc_play_model.proofs.FrameRanges.{AreParts, Frames, item_parts, around_items, IsInRange as IsConfigInRange, first_range, choice_range}
@@ -32,10 +32,6 @@ use Rattle.rc_play_model.proofs.RangeLemmas.{IsStage, current_within}
 use Rattle.rc_play_model.proofs.ReachedLemmas.{decision_at_site}
 use Rattle.rc_play_model.proofs.StageLemmas.{stages_numbered}
 use Rattle.rc_text_model.specs.PlayedBack.{IsPlayable}
-
-zeros : (n most : ℕ) → AllByRecursion (λ m. m ≤ most) (replicate n 0)
-zeros zero most = tt
-zeros (suc n) most = (omega arith, zeros n most)
 
 menu_few : (about : About) (site : ℕ) (table : Table) (control : Control) → length (menu_at about site table control) ≤ 256
 menu_few about site table control =

@@ -1,5 +1,5 @@
 -- What holds where no row applies.
-use Rattle.std.proofs.Common.{◌≡◌, ℕ, Bool, true, false, ◌&&◌, Option, Some, None, Ok, Err, refl}
+use Rattle.std.proofs.Common.{◌≡◌, ℕ, Bool, true, false, Option, Some, None, Ok, Err, refl}
 use Rattle.rc_text_model.specs.Why.{Why, Illegal}
 use Rattle.rc_text_model.specs.Rows.{unless, ◌or◌}
 use Rattle.rc_text_model.specs.Judged.{at_line}
@@ -12,10 +12,6 @@ unless_none false w e = absurd cc
 pub or_none : (a b : Option Why) → (a or b) ≡ None → (a ≡ None) × (b ≡ None)
 or_none None b e = (refl, e)
 or_none (Some w) b e = absurd cc
-
-pub both : (a b : Bool) → (a && b) ≡ true → (a ≡ true) × (b ≡ true)
-both true b e = (refl, e)
-both false b e = absurd cc
 
 pub on_row_ok : {A : Type 0} (n : ℕ) (o : Option Why) (later : Judging A) (x : A) → on_row n o later ≡ Ok x → (o ≡ None) × (later ≡ Ok x)
 on_row_ok n None later x e = (refl, e)

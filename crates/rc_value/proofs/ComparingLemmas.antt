@@ -1,9 +1,8 @@
 -- Tests of all players that compare a number of each with one that is the same for all.
-use Rattle.std.proofs.Common.{◌≡◌, ℕ, zero, suc, ℤ, ◌==◌, false, List, [], ◌∷◌, ◌++◌, length, map, slice_get, Option, Some, None, arith, refl, sym, ap, ap₂, ◌∙◌}
+use Rattle.std.proofs.Common.{◌≡◌, ℕ, zero, suc, ℤ, false, List, [], ◌∷◌, ◌++◌, length, map, slice_get, Option, Some, None, refl, sym, ap, ap₂, ◌∙◌}
 use Rattle.std.specs.Prelude.{IfSome}
 use mathlib.Core.Path.{fun_ext}
 use Rattle.std.specs.List.{list_any, list_all}
-use Rattle.std.proofs.lemmas.Bool.Decides.{nat_tests}
 use Rattle.rc_sheet_model.specs.Sheet.{player_class, Who, game, current_player, current_team, team_of_current, team_of_var, who_var, Num, NumName, IntExpr, literal, number, Test}
 use Rattle.rc_sheet_model.specs.Naming.{class_of}
 use Rattle.rc_play_model.specs.Owners.{place_among}
@@ -11,6 +10,7 @@ use Rattle.rc_play_model.specs.Shape.{team_at}
 use Rattle.rc_play_model.specs.Scene.{CardValue}
 use Rattle.rc_play_model.specs.Value.{Scene as PureScene, Bind as PureBind, Known, player_bound, player_of, who_value, num_place, number_there, int_value, test_value}
 use Rattle.rc_flow.specs.Reads.{reads_who}
+use Rattle.rc_flow.proofs.Unread.{other_place}
 use Rattle.rc_asked.specs.declared.atoms.Comparison.{Comparison}
 use Rattle.rc_value.specs.declared.comparing.Suited.{Suited}
 use Rattle.rc_value.specs.Comparing.{compare, number_held, suits, ArePaired, IsHisNumber, IsSameForAll, IsSuited}
@@ -31,9 +31,6 @@ at_outside [] m zero other = absurd (other refl)
 at_outside [] m (suc var) other = refl
 at_outside (b ∷ vars) m zero other = refl
 at_outside (b ∷ vars) m (suc var) other = at_outside vars m var (λ same. other (ap suc same))
-
-other_place : (var place : ℕ) → (var == place) ≡ false → (var ≡ place → ⊥)
-other_place var place e same = grind (arith, nat_tests)
 
 module _ (known : Known) (vars : List (PureBind CardValue)) (m : PureBind CardValue) where
   outside_who : (who : Who) → reads_who (length vars) who ≡ false → who_value known (vars ++ m ∷ []) who ≡ who_value known vars who

@@ -39,11 +39,6 @@ last_found (x ∷ y ∷ xs) =
     let e : length (x ∷ y ∷ xs) - 1 ≡ suc (length (y ∷ xs) - 1) = omega arith in
     ap (slice_get (x ∷ y ∷ xs)) e ∙ last_found (y ∷ xs)
 
-pub last-map : {X Y : Type 0} (f : X → Y) (xs : List X) → last_of (map f xs) ≡ option_map f (last_of xs)
-last-map f [] = refl
-last-map f (x ∷ []) = refl
-last-map f (x ∷ y ∷ xs) = last-map f (y ∷ xs)
-
 -- a card's value and worth hang on its id alone
 abbrev some_or : ℕ → Option ℕ → ℕ
 some_or d None = d

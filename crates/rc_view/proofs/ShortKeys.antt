@@ -9,15 +9,15 @@ use Rattle.std.proofs.lemmas.List.Elements.{recursion_from_All}
 use Rattle.std.proofs.lemmas.List.FromFn.{length-range_with_len}
 use Rattle.std.proofs.lemmas.List.Sums.{sum_by-cons, sum_by-le}
 use Rattle.rc_model.specs.Numbers.{below}
-use Rattle.rc_sheet_model.specs.Sheet.{Class, LocKind, vloc, iloc, hloc, mem}
 use Rattle.rc_sheet_model.specs.WellFormed.{is_mem}
 use Rattle.rc_play_model.specs.Control.{Control}
 use Rattle.rc_play_model.specs.Shape.{Place, Shape, face_number}
-use Rattle.rc_play_model.specs.Sees.{sees_kind, sees_place}
+use Rattle.rc_play_model.specs.Sees.{sees_place}
 use Rattle.rc_play_model.specs.Table.{Table, IsSound, times_in, references_in}
 use Rattle.rc_play_model.specs.View.{known_face, sight_of, sights_of}
 use Rattle.rc_play_model.proofs.CardLemmas.{append_each}
 use Rattle.rc_play_model.proofs.Counting.{passing, same, passing-is, passing-append, passing-all, each_once}
+use Rattle.rc_play_model.proofs.Filled.{mem_kind}
 use Rattle.rc_view.specs.Key.{frame_key, control_key, number_key, known_places, place_key, sight_key}
 use Rattle.rc_view.specs.Laws.{KeysAreShort}
 use Rattle.rc_view.proofs.KeyLemmas.{places-few}
@@ -82,14 +82,6 @@ control_long control =
     let both = length-append counts (length control.frames ∷ frames) in
     omega (arith, made, frame_bytes, both)
 
--- references are seen by every seat
-mem_seen : (shape : Shape) (seat : ℕ) (kind : LocKind) (class : Class) (owner : ℕ) → is_mem kind ≡ true →
-    sees_kind shape seat kind class owner ≡ true
-mem_seen shape seat vloc class owner is = absurd (true≢false (sym is))
-mem_seen shape seat iloc class owner is = absurd (true≢false (sym is))
-mem_seen shape seat hloc class owner is = absurd (true≢false (sym is))
-mem_seen shape seat mem class owner is = refl
-
 module _ (shape : Shape) (marks : List (List ℕ)) (seat : ℕ) where
   faces_long : (ids : List ℕ) → length (sight_key (sight_of shape marks seat true ids)) ≤ 2 + length ids * 2
   faces_long ids =
@@ -124,7 +116,7 @@ module _ (shape : Shape) (marks : List (List ℕ)) (seat : ℕ) where
   sights_long (place ∷ places) (ids ∷ lists) fit =
       let sight = sight_of shape marks seat (sees_place shape seat (Some place)) ids in
       let here = sight_long (is_mem place.kind) (sees_place shape seat (Some place)) ids
-      (mem_seen shape seat place.kind place.class place.owner) in
+      (mem_kind shape seat place.kind place.class place.owner) in
       let rest = sights_long places lists (omega (arith, fit)) in
       let bytes = length-append (sight_key sight) (flat_map sight_key (sights_of shape marks seat places lists)) in
       let references = sum_by-cons references_in (place, ids) (zip places lists) in

@@ -3,8 +3,9 @@ use Rattle.rc_play_model.specs.Ends.{last_of}
 use Rattle.rc_play_model.specs.Scene.{value_in}
 use Rattle.rc_play_model.specs.Shape.{holds_references}
 use Rattle.rc_play_model.specs.Value.{cards_there, cut}
+use Rattle.rc_play_model.proofs.Parts.{last_map}
 use Rattle.rc_value.specs.Scene.{scene_seen}
-use Rattle.rc_value.proofs.RowLemmas.{all_count, last-map}
+use Rattle.rc_value.proofs.RowLemmas.{all_count}
 use Rattle.rc_value.proofs.rows.top_card.Goals as goal
 
 pub returns-in-Some : goal.returns-in-Some
@@ -15,6 +16,6 @@ returns-in-Some c =
     c.card_in.ensures
     ∙ ap (option_map (value_in (holds_references (slice_get c.shape.result.now.places at)) at)) c.last.ensures
     ∙ ap (λ shape. option_map (value_in (holds_references (slice_get shape.places at)) at) (last_of c.list.result.now)) c.shape.ensures.is
-    ∙ sym (last-map seen c.list.result.now) ∙ ap last_of (all_count _ at c.list.result.now c.list.ensures.few)
+    ∙ sym (last_map seen c.list.result.now) ∙ ap last_of (all_count _ at c.list.result.now c.list.ensures.few)
     ∙ ap (λ ids. last_of (cut (map seen ids))) c.list.ensures.is
     ∙ ap (λ p. last_of (cut (cards_there (scene_seen c.args.scene.now) p))) (sym c.in-Some.is ∙ c.loc_at.ensures)
