@@ -1,5 +1,5 @@
 -- What `play` writes for a source tells plays.
-use Rattle.std.proofs.Common.{◌≡◌, ℕ, List, [], ◌∷◌, sym, subst}
+use Rattle.std.proofs.Common.{ℕ, List, [], ◌∷◌, sym, subst}
 use Rattle.rc_model.specs.Tree.{Tree}
 use Rattle.rc_sheet_model.specs.Sheet.{Sheet}
 use Rattle.rc_play_model.specs.About.{about_of}
@@ -11,10 +11,7 @@ use Rattle.rc_answers.specs.Reading.{IsAcceptedWith}
 use Rattle.rc_answers.specs.Answer.{text, IsAnswered, form_faulty, sheet_faulty, plan_faulty, accepted}
 use Rattle.rc_answers.specs.Plays.{TellsPlays, TellsPlaysBehind, WrittenIsPlayed}
 use Rattle.rc_answers.proofs.PlaysLemmas.{house_tells}
-
--- the bytes of a text
-same_bytes : (bytes bytes' note note' : List ℕ) (playouts playouts' : ℕ) → text bytes note playouts ≡ text bytes' note' playouts' → bytes ≡ bytes'
-same_bytes bytes bytes' note note' playouts playouts' same = cc
+use Rattle.rc_answers.proofs.PlayedLaws.{same_bytes}
 
 pub written_played : WrittenIsPlayed
 written_played options source bytes note playouts (form_faulty kind at has is) = absurd cc

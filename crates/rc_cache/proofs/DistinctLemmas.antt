@@ -79,7 +79,7 @@ apart_replay capacity keys (call ∷ calls) a =
 pub none_twice : (capacity : ℕ) (calls : List Call) → IsDistinct same_key (replay capacity calls)
 none_twice capacity calls = distinct (replay capacity calls) (apart_replay capacity [] calls tt)
 
-take_short : (n : ℕ) (ks : List Key) → length (take n ks) ≤ n
+pub take_short : (n : ℕ) (ks : List Key) → length (take n ks) ≤ n
 take_short zero ks = omega arith
 take_short (suc n) [] = omega arith
 take_short (suc n) (x ∷ ks) = let rest = take_short n ks in omega (arith, rest)

@@ -1,4 +1,4 @@
 mod ShuffleSteps
 mod RowLemmas
 mod KeyLemmas
-mod LaneLemmas
+pub mod LaneLemmas

@@ -1,6 +1,5 @@
 -- Notes of what items bind, match by match, as one list; and how many faces a legend has.
-use Rattle.std.proofs.Common.{◌≡◌, ℕ, zero, suc, ◌+◌, List, [], ◌∷◌, ◌++◌, map, flat_map, filter, length, Bool, true, false, if◌then◌else◌, refl, sym, ap, ◌∙◌, arith}
-use Rattle.std.specs.List.{range_with_len}
+use Rattle.std.proofs.Common.{◌≡◌, ℕ, suc, ◌+◌, List, [], ◌∷◌, ◌++◌, map, flat_map, filter, length, Bool, true, false, if◌then◌else◌, refl, sym, ap, ◌∙◌, arith}
 use Rattle.std.specs.Prelude.{Vec, Option}
 use Rattle.std.specs.Global.{Global}
 use Rattle.std.proofs.lemmas.List.{length-append, length-map}
@@ -20,6 +19,7 @@ use Rattle.rc_rules.specs.Record.{pick_seen, record_seen}
 use Rattle.rc_text_model.specs.Along.{marks_from, marks_over, next_stop}
 use Rattle.rc_text_model.specs.Judged.{play_after}
 use Rattle.rc_text.specs.BoundSeen.{all_bounds, AreFor}
+use Rattle.rc_text.proofs.Below.{last}
 use Rattle.rc_judge.specs.Seen.{lists_seen, lists_over}
 
 abbrev Lists : Type 0
@@ -69,10 +69,6 @@ module _ (about : About) (dealing : ℕ → Dealing ℕ) (plan : Plan) where
       list_counts lists ∙ ap (map (λ xs. length xs)) (seen_over lists old m (map record_seen matches) none e) ∙ over_counts m (map record_seen matches) ∙ counts_seen matches
 
 -- ---- counts of numbers that pass a test
-
-last : (from count to : ℕ) → from + count ≡ to → range_with_len from (suc count) ≡ range_with_len from count ++ to ∷ []
-last from zero to e = let is : from ≡ to = omega (arith, e) in ap (λ x. x ∷ []) is
-last from (suc count) to e = ap (λ xs. from ∷ xs) (last (from + 1) count to (omega (arith, e)))
 
 below_more : (count : ℕ) → below (count + 1) ≡ below count ++ count ∷ []
 below_more count =

@@ -1,19 +1,19 @@
 -- What a draft says of the form from which it is read.
-use Rattle.std.proofs.Common.{◌≡◌, ℕ, suc, ◌+◌, ◌-◌, ◌*◌, ◌≤◌, ◌<◌, Bool, true, false, ◌&&◌, ◌==◌, List, [], ◌∷◌, ◌++◌, length, map, All, refl, sym, ap, subst, ◌∙◌, inl, inr, add-zero, arith}
+use Rattle.std.proofs.Common.{◌≡◌, ℕ, ◌+◌, ◌-◌, ◌*◌, ◌≤◌, true, ◌&&◌, ◌==◌, List, [], ◌∷◌, ◌++◌, length, map, All, refl, sym, ap, subst, ◌∙◌, inl, inr, add-zero, arith}
 use Rattle.std.specs.Prelude.{nat_le}
 use Rattle.std.proofs.lemmas.Bool.{and_parts, eqb-true, leb-true}
 use Rattle.std.proofs.lemmas.List.{length-map, append-nil}
-use Rattle.std.proofs.lemmas.List.FromFn.{length-map-range_with_len, get_or-map-range_with_len}
+use Rattle.std.proofs.lemmas.List.FromFn.{length-map-range_with_len}
 use Rattle.rc_model.specs.Tree.{Tree, word, list, Trees, nil, cons, count, start_of}
 use Rattle.rc_sheet_model.specs.Rows.{◌▸◌, End, Row, Atom}
 use Rattle.rc_play_model.specs.Plan.{Strategy, Deal}
 use Rattle.rc_model.specs.Limits.{largest_seed, most_matches, most_turns, most_turns_in_all}
 use Rattle.rc_plan_model.specs.Limits.{IsBetween, IsWithinLimits, IsStrategyWithin, IsDealWithin}
-use Rattle.rc_plan_model.specs.PlanStands.{Number, InTurn, StandsStrategy, StandsDeal, later, counted_from, StandsSeats, StandsMatches, StandsTurns, PlanStands}
-use Rattle.rc_plan_model.specs.Faults.{fault_unless, is_between, spelled, number_in, seat_faults, is_countable, from_faults, each, match_faults, turn_faults, matches_said, all_matches_said, match_parts, turn_limit, is_small, second_round}
-use Rattle.rc_plan_model.specs.declared.fault.PlanKind.{PlanKind}
+use Rattle.rc_plan_model.specs.PlanStands.{Number, InTurn, StandsStrategy, StandsDeal, later, StandsSeats, StandsMatches, StandsTurns, PlanStands}
+use Rattle.rc_plan_model.specs.Faults.{fault_unless, is_between, number_in, seat_faults, is_countable, from_faults, each, match_faults, turn_faults, matches_said, all_matches_said, match_parts, turn_limit, is_small, second_round}
 use Rattle.rc_plan_model.specs.declared.fault.PlanKind.TheVariants.{Seats, Matches, Turns, TooLarge}
-use Rattle.rc_plan_model.specs.declared.fault.PlanFault.{PlanFault}
+use Rattle.rc_plan_model.proofs.NoFaults.{number_is, count_in_turn}
+use Rattle.rc_plan_model.proofs.SomePlan.{holds_if, neither, counted_within}
 use Rattle.rc_rules.specs.Plan.{strategy_seen, deal_seen}
 use Rattle.rc_plan.specs.Reads.{IsStrategy, AreSeats, IsDeal, IsFrom}
 use Rattle.rc_plan.specs.Matches.{AreMatches}
@@ -22,26 +22,6 @@ use Rattle.rc_plan.specs.declared.draft.Draft.{Draft}
 use Rattle.rc_plan.specs.declared.matches.Matches.{Matches as Said}
 use Rattle.rc_plan.specs.declared.matches.Matches.TheVariants.{Listed, From}
 use Rattle.rc_plan.proofs.Both.{both_in_turn}
-
--- as many parts as values for which they stand
-pub count_in_turn : {A : Type 0} (Stands : A → Tree → Type 0) (list : List A) (parts : Trees) → InTurn Stands list parts → count parts ≡ length list
-count_in_turn Stands [] nil stand = refl
-count_in_turn Stands [] (cons tree parts) stand = absurd stand
-count_in_turn Stands (first ∷ others) nil stand = absurd stand
-count_in_turn Stands (first ∷ others) (cons tree parts) stand = ap (λ n. suc n) (count_in_turn Stands others parts stand.1)
-
--- what stands, and what no test refuses
-holds_if : (b : Bool) (kind : PlanKind) (at : ℕ) → fault_unless b kind at ≡ [] → b ≡ true
-holds_if true kind at none = refl
-holds_if false kind at none = absurd cc
-
-no_faults : (xs ys : List PlanFault) → xs ++ ys ≡ [] → (xs ≡ []) × (ys ≡ [])
-no_faults [] ys none = (refl, none)
-no_faults (x ∷ xs) ys none = absurd cc
-
-number_is : (n : ℕ) (form : Tree) → Number n form → number_in form ≡ n
-number_is n (word bytes from to) spells = ap spelled spells
-number_is n (list parts from to) spells = absurd spells
 
 -- SEATS
 
@@ -132,14 +112,6 @@ pub record IsWithin (deals : List Deal) (turns : ℕ) : Type 0 where
   pub count : IsBetween 1 most_matches (length deals)
   pub each_deal : All IsDealWithin deals
   pub size : length deals * turns ≤ most_turns_in_all
-
-counted_within : (first : Deal) (count : ℕ) → 1 ≤ count → first.deal + count - 1 ≤ largest_seed → first.seats + count - 1 ≤ largest_seed
-    → All IsDealWithin (counted_from first count)
-counted_within first count some deals seats k d lt =
-    let long = length-map-range_with_len (later first) 0 count in
-    let below : k < count = omega (arith, lt, long) in
-    let is = get_or-map-range_with_len (later first) 0 count k k d below (omega arith) in
-    subst IsDealWithin (sym is) (omega (arith, below, deals), omega (arith, below, seats))
 
 matches_within : (said : Said) (form : Tree) (turns : ℕ) → AreMatches said form → count_faults said ≡ [] → are_few said turns ≡ true
     → IsWithin (deals_said said) turns
@@ -241,9 +213,9 @@ pub record IsSound (players : ℕ) (draft : Draft) : Type 0 where
 
 pub sound_draft : (draft : Draft) (players : ℕ) → draft_faults players draft ≡ [] → IsSound players draft
 sound_draft draft players none =
-    let all = no_faults _ _ none in
-    let three = no_faults _ _ all.0 in
-    let two = no_faults _ _ three.0 in
+    let all = neither _ _ none in
+    let three = neither _ _ all.0 in
+    let two = neither _ _ three.0 in
     let between = and_parts _ _ (holds_if _ Turns draft.turns_at three.1) in
     record {
       seats = eqb-true _ _ (holds_if (length draft.strategies.items == players) Seats draft.seats_at two.0);

@@ -1,13 +1,12 @@
 -- The faults of matches.
-use Rattle.std.proofs.Common.{◌≡◌, ℕ, ◌≤◌, ◌<◌, ◌≢◌, length, Bool, true, false, cond, List, [], ◌∷◌, ◌++◌, refl, ap, ◌∙◌, arith}
+use Rattle.std.proofs.Common.{◌≡◌, ℕ, ◌≤◌, ◌<◌, ◌≢◌, length, Bool, true, false, cond, List, [], ◌∷◌, refl, ap, ◌∙◌}
 use Rattle.std.specs.Prelude.{codes}
 use Rattle.std.proofs.lemmas.Bool.{le-leb, lt-leb}
 use Rattle.rc_form.specs.Form.{trees_of, packed}
 use Rattle.rc_form.specs.declared.form.Form.{Form}
-use Rattle.rc_model.specs.Tree.{word, list, Trees, nil, cons, count}
+use Rattle.rc_model.specs.Tree.{list, Trees, nil, cons}
 use Rattle.rc_plan_model.specs.Faults.{match, match_list, is_word, row, some, any_number, fault, each, lists_among}
 use Rattle.rc_plan_model.specs.declared.fault.PlanKind.TheVariants.{Shape}
-use Rattle.rc_plan_model.specs.declared.fault.PlanFault.{PlanFault}
 use Rattle.rc_plan.specs.Reads.{IsNotHeaded}
 use Rattle.rc_plan.proofs.Headed.{is_behind}
 use Rattle.rc_plan.proofs.Lengths.{some_parts}
@@ -22,18 +21,6 @@ match_deal alone (cons head parts) from to not = by_test (is_word (codes "from")
       ≡ row (any_number ∷ any_number ∷ []) from (cons head parts)
   by_test true is = absurd (not parts (is_behind (codes "from") head parts (list (cons head parts) from to) from to refl is))
   by_test false is = refl
-
--- where no part is at fault, all are lists
-no_fault_first : (xs ys : List PlanFault) → xs ++ ys ≡ [] → (xs ≡ []) × (ys ≡ [])
-no_fault_first [] ys none = (refl, none)
-no_fault_first (x ∷ xs) ys none = absurd cc
-
-pub all_lists : (alone : Bool) (parts : Trees) → each (match alone) parts ≡ [] → lists_among parts ≡ count parts
-all_lists alone nil none = refl
-all_lists alone (cons (word bytes from to) parts) none = absurd cc
-all_lists alone (cons (list inner from to) parts) none =
-    let rest = all_lists alone parts (no_fault_first (match alone (list inner from to)) (each (match alone) parts) none).1 in
-    omega (arith, rest)
 
 -- several parts, of which at most one is a list, and others
 pub listed_alone : (from : ℕ) (forms : List Form) → length forms ≢ 0 → lists_among (packed (trees_of forms)) ≤ 1

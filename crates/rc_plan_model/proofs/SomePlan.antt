@@ -21,11 +21,11 @@ use Rattle.rc_plan_model.proofs.NoFaults.{number_is, count_in_turn, deals_count_
 
 -- WHERE NOTHING IS AT FAULT
 
-holds_if : (b : Bool) (kind : PlanKind) (at : ℕ) → fault_unless b kind at ≡ [] → b ≡ true
+pub holds_if : (b : Bool) (kind : PlanKind) (at : ℕ) → fault_unless b kind at ≡ [] → b ≡ true
 holds_if true kind at none = refl
 holds_if false kind at none = absurd cc
 
-neither : (xs ys : List PlanFault) → xs ++ ys ≡ [] → (xs ≡ []) × (ys ≡ [])
+pub neither : (xs ys : List PlanFault) → xs ++ ys ≡ [] → (xs ≡ []) × (ys ≡ [])
 neither [] ys none = (refl, none)
 neither (x ∷ xs) ys none = absurd cc
 
@@ -234,7 +234,7 @@ deals_stand (cons part parts) none =
       joined (inl here) rest = (here.deal ∷ rest.0, (here.stands, rest.1), All-cons IsDealWithin here.deal rest.0 here.within rest.2)
       joined (inr here) rest = let bad = here.stands_alone in absurd cc
 
-all_lists : (alone : Bool) (parts : Trees) → each (match alone) parts ≡ [] → lists_among parts ≡ count parts
+pub all_lists : (alone : Bool) (parts : Trees) → each (match alone) parts ≡ [] → lists_among parts ≡ count parts
 all_lists alone nil none = refl
 all_lists alone (cons (word bytes from to) parts) none = absurd cc
 all_lists alone (cons (list inner from to) parts) none =
@@ -284,7 +284,7 @@ counts_if first many (list (cons head (cons a (cons b (cons c nil)))) from to) s
     )
 counts_if first many (list (cons head (cons a (cons b (cons c (cons d parts))))) from to) stands none = absurd stands.1.1.1.1
 
-counted_within : (first : Deal) (many : ℕ) → 1 ≤ many → first.deal + many - 1 ≤ largest_seed → first.seats + many - 1 ≤ largest_seed
+pub counted_within : (first : Deal) (many : ℕ) → 1 ≤ many → first.deal + many - 1 ≤ largest_seed → first.seats + many - 1 ≤ largest_seed
     → All IsDealWithin (counted_from first many)
 counted_within first many least deals seats k d lt =
     let long = length-map-range_with_len (later first) 0 many in

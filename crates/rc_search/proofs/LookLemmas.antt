@@ -1,5 +1,5 @@
 -- Looking behind the items of a decision.
-use Rattle.std.proofs.Common.{◌≡◌, ℕ, zero, suc, ◌+◌, ◌-◌, ◌≤◌, max, min, nat_lt, if◌then◌else◌, List, length, map, slice_index, ℤ, Option, Some, unwrap_or, sym, ap, ◌∙◌, subst, arith}
+use Rattle.std.proofs.Common.{◌≡◌, ℕ, zero, suc, ◌+◌, ◌-◌, ◌≤◌, max, min, nat_lt, if◌then◌else◌, List, length, map, slice_index, ℤ, Option, Some, sym, ap, ◌∙◌, subst, arith}
 use Rattle.std.specs.Prelude.{fold}
 use Rattle.std.specs.Global.{Global}
 use Rattle.std.specs.Prelude.{Box}
@@ -8,14 +8,13 @@ use Rattle.std.proofs.lemmas.List.FromFn.{length-range_with_len, length-map-rang
 use Rattle.std.proofs.lemmas.List.Sums.{fold_push}
 use Rattle.rc_model.specs.Numbers.{below}
 use Rattle.rc_sheet_model.specs.Sheet.{Sheet}
-use Rattle.rc_play_model.specs.About.{About, menu_at}
+use Rattle.rc_play_model.specs.About.{About}
 use Rattle.rc_play_model.specs.Effects.{Dealing}
 use Rattle.rc_play_model.specs.Step.{Config, Stop, goes}
 use Rattle.rc_play_model.specs.Stop.{stop_of}
 use Rattle.rc_play_model.specs.Decision.{choose}
 use Rattle.rc_play_model.specs.Play.{stop_behind}
 use Rattle.rc_play_model.specs.Scores.{score_of, scores_of}
-use Rattle.rc_rules.specs.Machine.{menu_here}
 use Rattle.rc_rules.proofs.PointLemmas.{mapped_push, summed_push}
 use Rattle.rc_flat.specs.Machine.{Machine, KeepsTables}
 use Rattle.rc_flat.specs.Moments.{IsMoment, StaysInMatch}
@@ -73,12 +72,6 @@ told_then a a' a'' s s' s'' first next =
 
 pub told_few : (a a' s s' : ℕ) → Tells a a' s s' → a' ≤ 18446744073709551615
 told_few a a' s s' tells = let told = tells.told in omega (arith, told)
-
--- the menu where a seat decides
-pub menu_there : (about about' : About) (c : Config) (site size : ℕ) → about' ≡ about → c.control.site ≡ Some site →
-    size ≡ length (menu_here about' c) → size ≡ length (menu_at about site c.table c.control)
-menu_there about about' c site size same stands count =
-    count ∙ ap (λ other. length (menu_here other c)) same ∙ ap (λ found. length (menu_at about (unwrap_or found 0) c.table c.control)) stands
 
 module _ (about : About) (way : Way) (depth : ℕ) (c : Config) (made : ℕ) where
   pub best_first : (seat : ℕ) (found : List ℕ) → found ≡ worth_behind about way depth c made 0 → found ≡ best_for seat (worths about way depth c made 1)

@@ -5,9 +5,9 @@ use Rattle.std.proofs.lemmas.List.{length-map}
 use Rattle.rc_play_model.specs.About.{About}
 use Rattle.rc_deck.specs.declared.memory.Memory.{Memory}
 use Rattle.rc_model.specs.Transcript.{Record}
-use Rattle.rc_play_model.specs.Plan.{Plan, deal_at}
+use Rattle.rc_play_model.specs.Plan.{Plan}
 use Rattle.rc_play_model.specs.Play.{Played as Play}
-use Rattle.rc_play_model.specs.Keyed.{keyed_match, keyed_play}
+use Rattle.rc_play_model.specs.Keyed.{keyed_match}
 use Rattle.rc_play_model.specs.Scores.{record_of}
 use Rattle.rc_match.specs.declared.playing.Played.{Played}
 use Rattle.rc_redraw.specs.Asking.{Key}
@@ -17,6 +17,7 @@ use Rattle.rc_match.specs.Named.{IsNoted}
 use Rattle.rc_match.proofs.AskLemmas.{looks_rise, keeps_rise}
 use Rattle.rc_records.specs.Series.{played_seen}
 use Rattle.rc_claims.specs.Claims.{Pass, with_number}
+use Rattle.rc_records.proofs.NamedLemmas.{numbered as number_is}
 use Rattle.rc_turns.specs.Turns.{IsRecordIn, number_of, asked_by_all, Rise, IsWork}
 use Rattle.rc_turns.proofs.NumberLemmas.{counted_before}
 
@@ -49,11 +50,6 @@ numbered : (about : About) (m deal seats : ℕ) (o : Option (Play ℕ)) →
     unwrap_or (option_map (λ (r : Record). r.number) (option_map (record_of about m deal seats) o)) m ≡ m
 numbered about m deal seats None = refl
 numbered about m deal seats (Some p) = refl
-
-number_is : (about : About) (plan : Plan) (m : ℕ) (r : Record) → keyed_match about plan m ≡ Some r → r.number ≡ m
-number_is about plan m r is =
-    sym (ap (λ (o : Option Record). unwrap_or (option_map (λ (r : Record). r.number) o) m) is)
-    ∙ numbered about m (deal_at plan m).deal (deal_at plan m).seats (keyed_play about plan m)
 
 -- what a match of these gives
 pub numbers_it : (about : About) (plan : Plan) (n : ℕ) (result : Result Played Memory) →

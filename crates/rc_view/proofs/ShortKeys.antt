@@ -1,6 +1,6 @@
 -- The bytes by which a view is known are few: each card stands once in the locations of cards, and references are few.
-use Rattle.std.proofs.Common.{◌≡◌, ℕ, ◌+◌, ◌*◌, ◌<◌, ◌≤◌, ◌==◌, Bool, true, false, cond, List, [], ◌∷◌, ◌++◌, length, map, get_or, sum_by, zip, Some, refl, sym, ap₂, ◌∙◌, true≢false, arith, length-append}
-use Rattle.std.specs.Prelude.{All, count_by, flat_map}
+use Rattle.std.proofs.Common.{◌≡◌, ℕ, ◌+◌, ◌*◌, ◌<◌, ◌≤◌, Bool, true, false, cond, List, [], ◌∷◌, ◌++◌, length, map, get_or, sum_by, zip, Some, refl, sym, ap₂, ◌∙◌, true≢false, arith, length-append}
+use Rattle.std.specs.Prelude.{All, flat_map}
 use Rattle.std.specs.Int.{w16, w32, to_le_bytes}
 use Rattle.std.specs.List.{AllByRecursion}
 use Rattle.std.proofs.lemmas.List.{length-map}
@@ -16,8 +16,9 @@ use Rattle.rc_play_model.specs.Sees.{sees_place}
 use Rattle.rc_play_model.specs.Table.{Table, IsSound, times_in, references_in}
 use Rattle.rc_play_model.specs.View.{known_face, sight_of, sights_of}
 use Rattle.rc_play_model.proofs.CardLemmas.{append_each}
-use Rattle.rc_play_model.proofs.Counting.{passing, same, passing-is, passing-append, passing-all, each_once}
+use Rattle.rc_play_model.proofs.Counting.{passing, same, passing-append, passing-all, each_once}
 use Rattle.rc_play_model.proofs.Filled.{mem_kind}
+use Rattle.rc_table.proofs.Held.{times_here, each_here}
 use Rattle.rc_view.specs.Key.{frame_key, control_key, number_key, known_places, place_key, sight_key}
 use Rattle.rc_view.specs.Laws.{KeysAreShort}
 use Rattle.rc_view.proofs.KeyLemmas.{places-few}
@@ -26,11 +27,6 @@ use Rattle.rc_view.proofs.KeyLemmas.{places-few}
 abbrev cards_at : Place × List ℕ → List ℕ
 cards_at at = cond (is_mem at.0.kind) [] at.1
 
-times_here : (id : ℕ) (m : Bool) (list : List ℕ) →
-    cond m 0 (count_by (λ other. other == id) list) ≡ passing (same id) (cond m [] list)
-times_here id true list = refl
-times_here id false list = sym (passing-is (same id) list)
-
 times_counted : (id : ℕ) (ats : List (Place × List ℕ)) →
     sum_by (times_in id) ats ≡ passing (same id) (flat_map cards_at ats)
 times_counted id [] = refl
@@ -38,11 +34,6 @@ times_counted id (at ∷ ats) =
     sum_by-cons (times_in id) at ats
     ∙ ap₂ ◌+◌ (times_here id (is_mem at.0.kind) at.1) (times_counted id ats)
     ∙ sym (passing-append (same id) (cards_at at) (flat_map cards_at ats))
-
-each_here : (n : ℕ) (m : Bool) (list : List ℕ) → All (λ id. id < n) list →
-    AllByRecursion (λ id. id < n) (cond m [] list)
-each_here n true list all = tt
-each_here n false list all = recursion_from_All (λ id. id < n) list all
 
 each_in : (n : ℕ) (places : List Place) (lists : List (List ℕ)) → AllByRecursion (All (λ id. id < n)) lists →
     AllByRecursion (λ id. id < n) (flat_map cards_at (zip places lists))

@@ -9,9 +9,10 @@ use Rattle.rc_play_model.specs.About.{scene_at}
 use Rattle.rc_play_model.specs.Scores.{score_of}
 use Rattle.rc_ast.specs.Expressions.{int_seen}
 use Rattle.rc_rules.specs.Control.{control_seen}
+use Rattle.rc_rules.proofs.PointLemmas.{mapped_push}
 use Rattle.rc_value.specs.Depth.{int_depth}
 use Rattle.rc_value.specs.Scene.{scene_seen}
-use Rattle.rc_state.proofs.ScoreLemmas.{below_one_more, below_count, score_is}
+use Rattle.rc_state.proofs.ScoreLemmas.{below_count, score_is}
 use Rattle.rc_state.proofs.scoring.scores_now.Goals as goal
 
 pub push-requires : goal.push-requires
@@ -52,6 +53,6 @@ loop-player-preserved c =
           c.push.ensures.items ∙ ap (λ s. c.loop-player.scores.items ++ s ∷ []) kept
           ∙ ap (λ xs. xs ++ c.score_in.result ∷ []) c.loop-player.invariant.told
           ∙ ap (λ s. map f (below player) ++ s ∷ []) score
-          ∙ sym (below_one_more f player);
+          ∙ sym (mapped_push f player);
       scope = (player_bound player, one);
     }
