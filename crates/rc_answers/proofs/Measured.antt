@@ -8,17 +8,17 @@ use Rattle.rc_model.specs.Clamp.{IsWithinClamp}
 use Rattle.rc_model.specs.Limits.{longest_text}
 use Rattle.rc_model.specs.Numbers.{below}
 use Rattle.rc_model.specs.Transcript.{Record}
+use Rattle.rc_deck.proofs.RangeLemmas.{below_length}
+use Rattle.rc_deck.proofs.EachLemmas.{parts_of_append}
 use Rattle.rc_play_model.specs.About.{About}
 use Rattle.rc_play_model.specs.Keyed.{dealing_of}
 use Rattle.rc_play_model.specs.Plan.{Plan as PurePlan}
-use Rattle.rc_play_model.proofs.Parts.{split}
 use Rattle.rc_plan_model.specs.Limits.{IsWithinLimits}
 use Rattle.rc_rules.specs.declared.plan.Plan.{Plan}
 use Rattle.rc_rules.specs.declared.record.MatchRecord.{MatchRecord}
 use Rattle.rc_rules.specs.declared.record.Score.{Score}
 use Rattle.rc_rules.specs.Plan.{plan_seen, strategy_seen}
 use Rattle.rc_rules.specs.Record.{pick_seen, score_seen, record_seen, standing_seen}
-use Rattle.rc_rules.proofs.Elements.{below_length}
 use Rattle.rc_text_model.specs.Lines.{Line, opening, chosen, shuffled, ending, scored, ranked, IsInRange}
 use Rattle.rc_text_model.specs.HouseText.{ended_lines, record_lines, lines_of, IsHouseText}
 use Rattle.rc_text_model.specs.Legal.{IsLegal, AreRecords}
@@ -66,8 +66,8 @@ each_within : (matches : List MatchRecord) → AllByRecursion IsInRange (flat_ma
     → AllByRecursion (λ r. All (λ s. IsWithinClamp s.score) r.scores.items) matches
 each_within [] all = tt
 each_within (r ∷ matches) all =
-    let both = split IsInRange (record_lines (record_seen r)) (flat_map record_lines (map record_seen matches)) all in
-    let lines = split IsInRange (ended_lines (record_seen r)) (map scored (map score_seen r.scores.items)) both.0 in
+    let both = parts_of_append IsInRange (record_lines (record_seen r)) (flat_map record_lines (map record_seen matches)) all in
+    let lines = parts_of_append IsInRange (ended_lines (record_seen r)) (map scored (map score_seen r.scores.items)) both.0 in
     (All-from_recursion (λ s. IsWithinClamp s.score) r.scores.items (scores_within r.scores.items lines.1), each_within matches both.1)
 
 pub measurable : (about : About) (plan : Plan) (text : HouseText) → IsWithinLimits (plan_seen plan)
@@ -86,7 +86,7 @@ measurable about plan text within seats is few legal =
     let players = within.seats.1 in
     let choices = few_choices (lines_of (house_seen text)) in
     let all = choices_of_matches records standings in
-    let lines = split IsInRange (flat_map record_lines records) (map ranked standings) is.ranges in
+    let lines = parts_of_append IsInRange (flat_map record_lines records) (map ranked standings) is.ranges in
     record {
       some = omega (arith, some, own, count);
       few = omega (arith, most, own, count);

@@ -1,5 +1,5 @@
 -- Tables that stay.
-use Rattle.std.proofs.Common.{◌≡◌, List, [], ◌∷◌, ◌++◌, Result, Ok, Err, OnOk, sym, ap, ◌∙◌, append_assoc}
+use Rattle.std.proofs.Common.{◌≡◌, List, [], ◌∷◌, ◌++◌, sym, ap, ◌∙◌, append_assoc}
 use Rattle.rc_play_model.specs.Table.{Table}
 use Rattle.rc_board.specs.Undo.{Kept, tables, noting, edited, Keeps, GoesBack}
 
@@ -32,11 +32,6 @@ keeps_then a b c first second =
           (two.0 ++ one.0, two.1 ∙ ap (λ ts. two.0 ++ ts) one.1 ∙ sym (append_assoc two.0 one.0 (tables a)));
       home = second.home ∙ first.home;
     }
-
--- what follows where a call answered Ok
-pub on_ok : {A E : Type 0} (P Q : Type 0) (r : Result A E) → OnOk r P → (P → Q) → OnOk r Q
-on_ok P Q (Ok a) holds f = f holds
-on_ok P Q (Err e) holds f = tt
 
 pub goes_then : (a b c : Kept) (gone gone' : List Table) → GoesBack a b gone → GoesBack b c gone' → GoesBack a c (gone ++ gone')
 goes_then a b c gone gone' first second =

@@ -11,27 +11,11 @@ use lib.ListN.{get_elem?}
 use Rattle.atomic_table.specs.Table.{Me, step, keeps, Allows, Splits, Joins, Final, Seen}
 use Rattle.atomic_table.proofs.Lists.{set_else}
 use Rattle.rc_model.specs.Numbers.{below}
+use Rattle.rc_deck.proofs.RangeLemmas.{below_push, below_length}
 use Rattle.rc_claims.specs.declared.views.PassView.{PassView}
 use Rattle.rc_claims.specs.declared.views.Limits.{Limits}
 use Rattle.rc_claims.specs.Rule.{pass_view, numbers_in, holders_in, beyond, IsIdle, HasFew, IsClaimedOnce, IsKept, Draws, behind_first, first_alone, both_views, no_view}
 use Rattle.rc_claims.proofs.ViewLemmas.{grown, shrunk, unchanged, joined_by, at-All, set-All, push-All, set-turned}
-
--- the numbers below a number, and that number
-below_push : (n : ℕ) → below (n + 1) ≡ below n ++ n ∷ []
-below_push n = ap below (let e : n + 1 ≡ suc n = omega arith in e) ∙ from 0 n ∙ ap (λ k. below n ++ k ∷ []) (let e : 0 + n ≡ n = omega arith in e)
-  where
-    from : (a n : ℕ) → range_with_len a (suc n) ≡ range_with_len a n ++ (a + n) ∷ []
-    from a zero = ap (λ k. k ∷ []) (let e : a ≡ a + 0 = omega arith in e)
-    from a (suc n) =
-        ap (λ l. a ∷ l) (from (a + 1) n)
-        ∙ ap (λ k. a ∷ (range_with_len (a + 1) n ++ k ∷ [])) (let e : (a + 1) + n ≡ a + suc n = omega arith in e)
-
-pub length_below : (n : ℕ) → length (below n) ≡ n
-length_below n = from 0 n
-  where
-    from : (a n : ℕ) → length (range_with_len a n) ≡ n
-    from a zero = refl
-    from a (suc n) = ap suc (from (a + 1) n)
 
 -- one number counts where it isn't below the count
 tells : (count n : ℕ) (b : Bool) → leb count n ≡ b → (cond {A = ℕ} b 1 0 ≤ 1) × ((cond {A = ℕ} b 1 0 ≡ 1) ⊎ (n < count))
@@ -77,7 +61,7 @@ module _ (limits : Limits) (word : ℕ) (views : List PassView) (once : IsClaime
   drawn_beyond = sym (sum_by-IsPermutation (λ k. cond (leb limits.count k) 1 0) (below word) (numbers_in views) once.numbers)
 
   passes_held : length (holders_in views) ≡ limits.passes
-  passes_held = length_permutation (below limits.passes) (holders_in views) once.holders ∙ length_below limits.passes
+  passes_held = length_permutation (below limits.passes) (holders_in views) once.holders ∙ below_length limits.passes
 
   -- so the word stays small
   pub word_small : word ≤ limits.count + limits.passes
@@ -86,7 +70,7 @@ module _ (limits : Limits) (word : ℕ) (views : List PassView) (once : IsClaime
   module _ (id : ℕ) (v : PassView) (at : get_elem? views id ≡ some v) where
     word_late : length v.numbers ≤ word
     word_late =
-        omega (arith, no_more views id v at, length_permutation (below word) (numbers_in views) once.numbers, length_below word)
+        omega (arith, no_more views id v at, length_permutation (below word) (numbers_in views) once.numbers, below_length word)
 
     -- a claim
     one_more : 0 < length v.holders → beyond limits.count v.numbers ≡ 0 →

@@ -5,3 +5,5 @@ pub mod CapLemmas
 pub mod ProductLemmas
 pub mod ListingLemmas
 pub mod PointLemmas
+pub mod RangeLemmas
+pub mod EachLemmas

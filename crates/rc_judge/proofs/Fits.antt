@@ -1,5 +1,5 @@
 -- Notes of what items bind, match by match, as one list; and how many faces a legend has.
-use Rattle.std.proofs.Common.{◌≡◌, ℕ, suc, ◌+◌, List, [], ◌∷◌, ◌++◌, map, flat_map, filter, length, Bool, true, false, if◌then◌else◌, refl, sym, ap, ◌∙◌, arith}
+use Rattle.std.proofs.Common.{◌≡◌, ℕ, suc, ◌+◌, List, [], ◌∷◌, ◌++◌, map, flat_map, filter, length, Bool, true, false, if◌then◌else◌, refl, sym, ap, ◌∙◌}
 use Rattle.std.specs.Prelude.{Vec, Option}
 use Rattle.std.specs.Global.{Global}
 use Rattle.std.proofs.lemmas.List.{length-append, length-map}
@@ -8,6 +8,7 @@ use Rattle.std.proofs.lemmas.Bool.{cond-true, cond-false}
 use Rattle.arrayvec.specs.ArrayVec.{ArrayVec}
 use Rattle.rc_model.specs.Numbers.{below}
 use Rattle.rc_model.specs.Transcript.{Pick, Record}
+use Rattle.rc_deck.proofs.RangeLemmas.{below_push}
 use Rattle.rc_play_model.specs.About.{About}
 use Rattle.rc_play_model.specs.Effects.{Dealing}
 use Rattle.rc_play_model.specs.Plan.{Plan}
@@ -19,7 +20,6 @@ use Rattle.rc_rules.specs.Record.{pick_seen, record_seen}
 use Rattle.rc_text_model.specs.Along.{marks_from, marks_over, next_stop}
 use Rattle.rc_text_model.specs.Judged.{play_after}
 use Rattle.rc_text.specs.BoundSeen.{all_bounds, AreFor}
-use Rattle.rc_text.proofs.Below.{last}
 use Rattle.rc_judge.specs.Seen.{lists_seen, lists_over}
 
 abbrev Lists : Type 0
@@ -70,11 +70,6 @@ module _ (about : About) (dealing : ℕ → Dealing ℕ) (plan : Plan) where
 
 -- ---- counts of numbers that pass a test
 
-below_more : (count : ℕ) → below (count + 1) ≡ below count ++ count ∷ []
-below_more count =
-    let more : count + 1 ≡ suc count = omega arith in
-    ap below more ∙ last 0 count count (omega arith)
-
 kept_of : (keeps : ℕ → Bool) (n : ℕ) (b : Bool) → keeps n ≡ b → length (filter keeps (n ∷ [])) ≡ (if b then 1 else 0)
 kept_of keeps n true e = ap length (cond-true (keeps n) (n ∷ []) [] e)
 kept_of keeps n false e = ap length (cond-false (keeps n) (n ∷ []) [] e)
@@ -82,5 +77,5 @@ kept_of keeps n false e = ap length (cond-false (keeps n) (n ∷ []) [] e)
 pub count_more : (keeps : ℕ → Bool) (n : ℕ) (b : Bool) → keeps n ≡ b →
     length (filter keeps (below (n + 1))) ≡ length (filter keeps (below n)) + (if b then 1 else 0)
 count_more keeps n b e =
-    ap (λ xs. length (filter keeps xs)) (below_more n) ∙ ap length (filter-append keeps (below n) (n ∷ []))
+    ap (λ xs. length (filter keeps xs)) (below_push n) ∙ ap length (filter-append keeps (below n) (n ∷ []))
     ∙ length-append (filter keeps (below n)) (filter keeps (n ∷ [])) ∙ ap (λ k. length (filter keeps (below n)) + k) (kept_of keeps n b e)

@@ -3,6 +3,7 @@ use Rattle.std.proofs.Common.{◌≡◌, ℕ, zero, suc, ◌+◌, ◌<◌, List,
 use Rattle.std.specs.List.{range_with_len}
 use Rattle.std.proofs.lemmas.List.FromFn.{length-map-range_with_len}
 use Rattle.rc_model.specs.Numbers.{below}
+use Rattle.rc_deck.proofs.RangeLemmas.{at_range}
 use Rattle.rc_play_model.specs.About.{About}
 use Rattle.rc_play_model.specs.Step.{Config}
 use Rattle.rc_play_model.specs.Scores.{rank_points, scores_of, score_at}
@@ -13,12 +14,6 @@ in_range f a zero k lt = absurd (omega (arith, lt))
 in_range f a (suc n) zero lt = let same : a ≡ a + 0 = omega arith in ap (λ i. Some (f i)) same
 in_range f a (suc n) (suc k) lt =
     let same : (a + 1) + k ≡ a + suc k = omega arith in in_range f (a + 1) n k (omega (arith, lt)) ∙ ap (λ i. Some (f i)) same
-
-at_range : {X : Type 0} (f : ℕ → X) (a n k : ℕ) (d : X) → k < n → get_or (map f (range_with_len a n)) k d ≡ f (a + k)
-at_range f a zero k d lt = absurd (omega (arith, lt))
-at_range f a (suc n) zero d lt = let same : a ≡ a + 0 = omega arith in ap f same
-at_range f a (suc n) (suc k) d lt =
-    let same : (a + 1) + k ≡ a + suc k = omega arith in at_range f (a + 1) n k d (omega (arith, lt)) ∙ ap f same
 
 pub long_scores : (about : About) (c : Config) (scores : List ℤ) → scores ≡ scores_of about c.table c.control → length scores ≡ about.sheet.players
 long_scores about c scores is = ap length is ∙ length-map-range_with_len _ 0 about.sheet.players

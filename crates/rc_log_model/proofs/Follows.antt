@@ -6,11 +6,11 @@ use Rattle.std.proofs.lemmas.List.Concat.{flat_map-append}
 use Rattle.std.proofs.lemmas.Bool.{and_parts, ltb-true, eqb-false}
 use Rattle.rc_model.specs.Clamp.{IsWithinClamp}
 use Rattle.rc_model.specs.Transcript.{line}
+use Rattle.rc_deck.proofs.EachLemmas.{append_each}
 use Rattle.rc_play_model.specs.Shape.{Place as Location, Shape}
 use Rattle.rc_play_model.specs.Sees.{sees, sees_place}
 use Rattle.rc_text_model.specs.Fields.{◌>>=◌, behind, last}
 use Rattle.rc_text_model.proofs.FieldLemmas.{bind_some, some_is, if_some, behind_only, last-only, either}
-use Rattle.rc_text_model.proofs.Grammar.{all_append}
 use Rattle.rc_log_model.specs.Shown.{site_shown, sight_from}
 use Rattle.rc_play_model.specs.View.{Sight, View}
 use Rattle.rc_log_model.specs.Lines.{header_text, opening_text, stop_text, made_text, frame_text, numbers_text, place_text, total_text, opening_in, stop_in, made_in, frame_in, numbers_in, place_in, total_in}
@@ -136,7 +136,7 @@ module _ (shape : Shape) where
     record {
       seat_there = f.seat_there;
       number_fits = f.number_fits;
-      counts = all_append (Counts shape seat) views (v ∷ []) f.counts (counts_from seat v h b (eqb-true (length v.sights) (length shape.places) e), tt);
+      counts = append_each (Counts shape seat) views (v ∷ []) f.counts (counts_from seat v h b (eqb-true (length v.sights) (length shape.places) e), tt);
       few = few_more views v lt;
     },
     front_more seat n views v,
@@ -227,7 +227,7 @@ module _ (shape : Shape) where
             each_made = h.each_made;
             made = h.made;
             few_frames = omega (arith, ltb-true (length v.control.frames) 64 i.0, length-append v.control.frames (a.0 ∷ []));
-            frames = all_append IsFrame v.control.frames (a.0 ∷ []) h.frames (f.0, tt);
+            frames = append_each IsFrame v.control.frames (a.0 ∷ []) h.frames (f.0, tt);
           },
           good.3,
         ),
@@ -360,7 +360,7 @@ module _ (shape : Shape) (small : IsSmall shape) where
       record {
         seat_there = f.seat_there;
         number_fits = f.number_fits;
-        counts = all_append (Counts shape seat) views (w ∷ []) f.counts (counts, tt);
+        counts = append_each (Counts shape seat) views (w ∷ []) f.counts (counts, tt);
         few = few_more shape views w lt;
       } in
       let r = finish_between seat n (views ++ w ∷ []) g in (

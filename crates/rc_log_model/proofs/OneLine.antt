@@ -3,12 +3,12 @@ use Rattle.std.proofs.Common.{◌≡◌, ℕ, ◌+◌, ◌<◌, ◌≤◌, ◌^�
 use Rattle.std.specs.Fmt.{signed_decimal}
 use Rattle.std.specs.List.{AllByRecursion}
 use Rattle.rc_model.specs.Clamp.{IsWithinClamp}
+use Rattle.rc_deck.proofs.EachLemmas.{append_each}
 use Rattle.rc_play_model.specs.Control.{Frame}
 use Rattle.rc_play_model.specs.Shape.{Place, Shape}
 use Rattle.rc_play_model.specs.Sees.{sees_place}
 use Rattle.rc_text_model.specs.HouseText.{IsOneLine}
 use Rattle.rc_text_model.proofs.LineCuts.{IsOneLine-append, signed_one, part, more}
-use Rattle.rc_text_model.proofs.Grammar.{all_append}
 use Rattle.rc_log_model.specs.Shown.{site_shown, cards_shown}
 use Rattle.rc_play_model.specs.View.{Sight, View}
 use Rattle.rc_log_model.specs.Lines.{opening_text, stop_text, count_text, integer_text, made_text, direction_text, named_text, frame_text, numbers_text, card_text, total_text}
@@ -89,7 +89,7 @@ module _ (shape : Shape) (small : IsSmall shape) (seat : ℕ) where
     stop_one n v.control.turn (site_shown v) le is.turn (site_small v.control.site is.site),
     (
       made_one v.control.made is.made,
-      all_append IsOneLine (map frame_text v.control.frames) (numbers_text v.numbers ∷ place_lines 0 v.sights) (frames_one v.control.frames is.frames)
+      append_each IsOneLine (map frame_text v.control.frames) (numbers_text v.numbers ∷ place_lines 0 v.sights) (frames_one v.control.frames is.frames)
           (numbers_one v.numbers is.numbers, places_one 0 shape.places v.sights (omega (arith, small.locations)) is.places),
     ),
   )
@@ -97,14 +97,14 @@ module _ (shape : Shape) (small : IsSmall shape) (seat : ℕ) where
   blocks_one : (n : ℕ) (views : List View) → n + length views ≤ 4294967295 → AllByRecursion (Counts shape seat) views → AllByRecursion IsOneLine (blocks_from n views)
   blocks_one n [] le all = tt
   blocks_one n (v ∷ views) le all =
-      all_append IsOneLine (block_lines n v) (blocks_from (n + 1) views) (block_one n v (omega (arith, le)) all.0) (blocks_one (n + 1) views (omega (arith, le)) all.1)
+      append_each IsOneLine (block_lines n v) (blocks_from (n + 1) views) (block_one n v (omega (arith, le)) all.0) (blocks_one (n + 1) views (omega (arith, le)) all.1)
 
 pub lines_one : (shape : Shape) → IsSmall shape → (t : LogText) → IsLog shape t → AllByRecursion IsOneLine (log_lines t)
 lines_one shape small t is = (
   search rules,
   (
     opening_one t.seat t.number (omega (arith, is.seat, small.players)) is.number,
-    all_append IsOneLine (blocks_from 0 t.views) (total_text t.stops ∷ []) (blocks_one shape small t.seat 0 t.views (omega (arith, is.told)) is.views)
+    append_each IsOneLine (blocks_from 0 t.views) (total_text t.stops ∷ []) (blocks_one shape small t.seat 0 t.views (omega (arith, is.told)) is.views)
         (total_one t.stops is.stops, tt),
   ),
 )

@@ -3,8 +3,8 @@ use Rattle.std.proofs.Common.{◌≡◌, ℕ, zero, suc, ◌-◌, ◌<◌, ◌�
 use Rattle.std.specs.List.{AllByRecursion}
 use Rattle.std.proofs.lemmas.Bool.{cases_lt}
 use Rattle.std.proofs.lemmas.List.{length-append, length-take, take_all, take_at}
+use Rattle.rc_deck.proofs.EachLemmas.{take_each, append_each}
 use Rattle.rc_play_model.specs.Shape.{Shape}
-use Rattle.rc_text_model.proofs.Grammar.{all_append}
 use Rattle.rc_play_model.specs.View.{View}
 use Rattle.rc_log_model.specs.Log.{LogText, log_lines, text_of, log_text, most_told, largest_word, Counts, IsSmall, IsLog}
 use Rattle.rc_log_model.specs.Laws.{AllCount}
@@ -28,17 +28,12 @@ is_grammar shape small =
 pub log_read : (shape : Shape) (t : LogText) → IsSmall shape → IsLog shape t → read_log shape (text_of t) ≡ Ok t
 log_read shape t small is = text_read (is_grammar shape small) t is
 
-all_taken : {A : Type 0} (P : A → Type 0) (n : ℕ) (xs : List A) → AllByRecursion P xs → AllByRecursion P (take n xs)
-all_taken P zero xs all = tt
-all_taken P (suc n) [] all = tt
-all_taken P (suc n) (x ∷ xs) all = (all.0, all_taken P n xs all.1)
-
 pub views_have : (shape : Shape) (seat number : ℕ) (views : List View) → seat < shape.players → number ≤ largest_word → AllCount shape seat views → IsLog shape (log_text seat number views)
 views_have shape seat number views less le all =
     record {
       seat = less;
       number = le;
-      views = all_taken (Counts shape seat) most_told views all.0;
+      views = take_each (Counts shape seat) most_told views all.0;
       told = length-take most_told views;
       stops = all.1;
     }
@@ -72,7 +67,7 @@ padded shape t is v rest e many =
     let count : length views ≡ t.stops = omega (arith, length-append t.views more, r.0, long) in (
       views,
       (
-        (all_append (Counts shape t.seat) t.views more is.views r.1, omega (arith, count, is.stops)),
+        (append_each (Counts shape t.seat) t.views more is.views r.1, omega (arith, count, is.stops)),
         ap₂ (λ (vs : List View) (n : ℕ). record { seat = t.seat; number = t.number; views = vs; stops = n }) (take_at t.views more most_told long) count,
       ),
     )

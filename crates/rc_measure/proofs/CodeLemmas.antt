@@ -15,8 +15,9 @@ use Rattle.rc_play_model.specs.Plan.{Plan}
 use Rattle.rc_play_model.specs.House.{points_in, points_of}
 use Rattle.rc_measure.specs.Scores.{spread_of, spread_in}
 use Rattle.rc_measure.specs.Leads.{leader, leader_after, changes_at}
-use Rattle.rc_text.proofs.Below.{below_more, last as range_more}
+use Rattle.rc_text.proofs.Below.{last as range_more}
 use Rattle.rc_model.specs.Transcript.{Record}
+use Rattle.rc_deck.proofs.RangeLemmas.{below_push}
 use Rattle.rc_rules.specs.declared.record.Score.{Score as CodeScore}
 use Rattle.rc_rules.specs.declared.record.MatchRecord.{MatchRecord}
 use Rattle.rc_rules.specs.Record.{score_seen, record_seen}
@@ -62,7 +63,7 @@ all_append_one p [] x all is = rw is refl
 all_append_one p (y ∷ xs) x all is = let a = and_parts (p y) (list_all p xs) all in and_from (p y) (list_all p (xs ++ x ∷ [])) a.0 (all_append_one p xs x a.1 is)
 
 pub all_below_more : (p : ℕ → Bool) (k : ℕ) → list_all p (below k) ≡ true → p k ≡ true → list_all p (below (k + 1)) ≡ true
-all_below_more p k all is = ap (list_all p) (below_more k) ∙ all_append_one p (below k) k all is
+all_below_more p k all is = ap (list_all p) (below_push k) ∙ all_append_one p (below k) k all is
 
 fails_from : (p : ℕ → Bool) (from count k : ℕ) → from ≤ k → k < from + count → p k ≡ false → (k ≡ from) ⊎ (k ≡ from → ⊥) → list_all p (range_with_len from count) ≡ false
 fails_from p from zero k le less is which = absurd (omega arith)
@@ -124,10 +125,10 @@ module _ (plan : Plan) (records : List Record) where
 pub row_more : {X Y : Type 0} (see : Y → X) (f : ℕ → X) (rows : List Y) (k : ℕ) (row : Y) → map see rows ≡ map f (below k) → see row ≡ f k → map see (rows ++ row ∷ []) ≡ map f (below (k + 1))
 row_more see f rows k row so_far is =
     map_push see rows row ∙ ap (λ front. front ++ see row ∷ []) so_far ∙ ap (λ x. map f (below k) ++ x ∷ []) is
-    ∙ sym (ap (map f) (below_more k) ∙ map_push f (below k) k)
+    ∙ sym (ap (map f) (below_push k) ∙ map_push f (below k) k)
 
 pub kept_more : {X : Type 0} (f : ℕ → X) (keep : ℕ → Bool) (rows : List X) (k : ℕ) → rows ≡ map f (filter keep (below k)) →
     rows ++ map f (filter keep (k ∷ [])) ≡ map f (filter keep (below (k + 1)))
 kept_more f keep rows k so_far =
     ap (λ front. front ++ map f (filter keep (k ∷ []))) so_far ∙ sym (map-append f (filter keep (below k)) (filter keep (k ∷ [])))
-    ∙ ap (map f) (sym (ap (filter keep) (below_more k) ∙ filter-append keep (below k) (k ∷ [])))
+    ∙ ap (map f) (sym (ap (filter keep) (below_push k) ∙ filter-append keep (below k) (k ∷ [])))

@@ -10,7 +10,8 @@ use Rattle.rc_sheet_model.specs.Sheet.{Test as PureTest, Alt as PureAlt, Effects
 use Rattle.rc_menu.specs.Asks.{told_of}
 use Rattle.rc_play_model.specs.Scene.{CardValue}
 use Rattle.std.proofs.lemmas.Bool.Decides.{nat_tests}
-use Rattle.rc_rules.proofs.Elements.{drop_here, below_length}
+use Rattle.rc_deck.proofs.RangeLemmas.{below_length}
+use Rattle.rc_rules.proofs.Elements.{drop_here}
 use Rattle.rc_value.proofs.Steps.{cut_more}
 
 moved : (item : PureItem) (i : ℕ) (ss : List (List ℕ)) →

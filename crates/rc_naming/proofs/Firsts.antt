@@ -5,12 +5,9 @@ use Rattle.std.proofs.lemmas.Bool.{cases_Bool, cond-true, cond-false}
 use Rattle.std.proofs.lemmas.List.{append-nil, map-append, map-id}
 use Rattle.std.proofs.lemmas.List.Folds.{list_any-append}
 use Rattle.rc_model.specs.Words.{different, different_from}
+use Rattle.rc_deck.proofs.EachLemmas.{any-map}
 use Rattle.rc_faults.specs.SecondNames.{firsts_from, OwnedMention}
 use Rattle.rc_naming.specs.Known.{with_firsts, with_words, with_mentions}
-
-pub list_any-map : {X Y : Type 0} (p : Y → Bool) (f : X → Y) (xs : List X) → list_any p (map f xs) ≡ list_any (λ x. p (f x)) xs
-list_any-map p f [] = refl
-list_any-map p f (x ∷ xs) = ap (λ rest. p (f x) || rest) (list_any-map p f xs)
 
 module _ {X : Type 0} (name : X → List ℕ) where
   -- those whose names aren't among the seen ones, the first of each name alone
@@ -50,7 +47,7 @@ module _ {X : Type 0} (name : X → List ℕ) where
   added known [] = sym (append-nil known)
   added known (x ∷ xs) =
       let among : list_any (bytes_eq (name x)) (map name known) ≡ list_any (λ other. bytes_eq (name x) (name other)) known =
-      list_any-map (bytes_eq (name x)) name known in
+      any-map (bytes_eq (name x)) name known in
       elim (cases_Bool (list_any (λ other. bytes_eq (name x) (name other)) known)) [
         | inl is ↦
             rw (is, among ∙ is) (added known xs)
@@ -94,7 +91,7 @@ seen_added f name known [] = refl
 seen_added f name known (x ∷ xs) =
     let among : list_any (λ other. bytes_eq (name (f x)) (name other)) (map f known)
     ≡ list_any (λ other. bytes_eq (name (f x)) (name (f other))) known =
-    list_any-map (λ other. bytes_eq (name (f x)) (name other)) f known in
+    any-map (λ other. bytes_eq (name (f x)) (name other)) f known in
     elim (cases_Bool (list_any (λ other. bytes_eq (name (f x)) (name (f other))) known)) [
       | inl is ↦
           ap (λ all. map f (with_firsts (λ y. name (f y)) all xs)) (cond-true _ _ _ is)

@@ -3,6 +3,7 @@ use Rattle.std.proofs.Common.{◌≡◌, ℕ, zero, suc, ◌≤◌, ◌<◌, Boo
 use Rattle.std.specs.Prelude.{unwrap_or}
 use Rattle.std.specs.List.{AllByRecursion, AllZip}
 use Rattle.std.proofs.lemmas.List.Elements.{All-from_recursion}
+use Rattle.rc_deck.proofs.EachLemmas.{past_end}
 use Rattle.rc_sheet_model.specs.Sheet.{Alt, SheetItem, choice, Sheet}
 use Rattle.rc_sheet_model.specs.Lists.{item_list}
 use Rattle.rc_play_model.specs.Control.{Frame, Control}
@@ -20,7 +21,7 @@ use Rattle.rc_play_model.proofs.FrameLemmas.{start_frames}
 use Rattle.rc_play_model.proofs.SiteLemmas.{alts_at_found}
 use Rattle.rc_plain.specs.Paths.{ArePlaces, IsPath, item_at}
 use Rattle.rc_plain.specs.Plain.{Plain, config_of, IsInPlay}
-use Rattle.rc_plain.proofs.PathLemmas.{past_end, all_but_last}
+use Rattle.rc_plain.proofs.PathLemmas.{all_but_last}
 
 -- AT THE START
 

@@ -1,6 +1,6 @@
 -- Paths of machines: places one more and one less, how many stages are open, and that the item at a path of a well formed
 -- sheet is well formed.
-use Rattle.std.proofs.Common.{◌≡◌, ℕ, zero, suc, ◌+◌, ◌≤◌, Bool, true, false, List, [], ◌∷◌, ◌++◌, length, drop, slice_get, Option, Some, None, refl, sym, ap, ◌∙◌, subst, length-append, arith}
+use Rattle.std.proofs.Common.{◌≡◌, ℕ, zero, suc, ◌+◌, Bool, true, false, List, [], ◌∷◌, ◌++◌, length, drop, slice_get, Option, Some, None, refl, sym, ap, ◌∙◌, subst, length-append, arith}
 use Rattle.rc_sheet_model.specs.Sheet.{Class, game_class, player_class, team_class, Test, SheetItem, do_item, stage, choice, SheetItems, no_item, item, Sheet}
 use Rattle.rc_sheet_model.specs.Lists.{item_list}
 use Rattle.rc_sheet_model.specs.WellFormed.{Around, in_stage, IsTest, IsItem, AreItems}
@@ -42,12 +42,6 @@ not_round sheet path is none = by_cases path.at_round (is.at_stage) where
   by_cases : (b : Bool) → (b ≡ true → (s : Stage) × (stage_in (item_at sheet path) ≡ Some s)) → b ≡ false
   by_cases false at = refl
   by_cases true at = let s = at refl in absurd (none_not-some s.0 (sym none ∙ s.1))
-
--- where nothing is next the body has ended
-pub past_end : {A : Type 0} (xs : List A) (n : ℕ) → slice_get xs n ≡ None → length xs ≤ n
-past_end [] n none = omega arith
-past_end (x ∷ xs) zero none = absurd (none_not-some x (sym none))
-past_end (x ∷ xs) (suc n) none = let rest = past_end xs n none in omega (arith, rest)
 
 -- HOW MANY STAGES ARE OPEN
 

@@ -1,9 +1,10 @@
 -- What expressions mean in a sound table: cards of the shape, and references that were read in locations of references.
-use Rattle.std.proofs.Common.{◌≡◌, ℕ, zero, suc, ◌+◌, ◌<◌, Bool, true, false, cond, List, [], ◌∷◌, ◌++◌, length, get_or, take, map, slice_get, ℤ, Option, Some, None, refl, arith}
+use Rattle.std.proofs.Common.{◌≡◌, ℕ, zero, suc, ◌+◌, ◌<◌, Bool, true, false, cond, List, [], ◌∷◌, ◌++◌, length, get_or, map, slice_get, ℤ, Option, Some, None, refl, arith}
 use Rattle.std.specs.Prelude.{filter, filter_map, All, int_lt}
 use Rattle.std.specs.List.{AllByRecursion, range_with_len, best_of as first_best}
 use Rattle.std.proofs.lemmas.List.Elements.{recursion_from_All, All-from_recursion}
 use Rattle.rc_model.specs.Numbers.{below}
+use Rattle.rc_deck.proofs.EachLemmas.{take_each, append_each}
 use Rattle.rc_sheet_model.specs.Sheet.{CardExpr, card_var, top_card, bottom_card, max_card, min_card, CollExpr, group_var, cards_in, filtered, union_of, known_in, CollExprs, no_coll, coll, Domain, each_player, each_card, each_group, Alt, do_alt, if_alt, any_alt}
 use Rattle.rc_sheet_model.specs.WellFormed.{is_mem}
 use Rattle.rc_play_model.specs.Ends.{last_of, first_of}
@@ -14,16 +15,6 @@ use Rattle.rc_play_model.specs.Value.{Scene, Bind, player_bound, card_bound, gro
 use Rattle.rc_play_model.specs.Scene.{CardValue, Vars, value_in, seen_of, ids_seen}
 use Rattle.rc_play_model.specs.Bound.{IsCardOf, IsBindOf}
 use Rattle.rc_play_model.specs.Menu.{bindings_of}
-
--- what holds of each holds of each of a part
-pub take_each : {X : Type 0} (P : X → Type 0) (n : ℕ) (xs : List X) → AllByRecursion P xs → AllByRecursion P (take n xs)
-take_each P zero xs all = tt
-take_each P (suc n) [] all = tt
-take_each P (suc n) (x ∷ xs) all = (all.0, take_each P n xs all.1)
-
-pub append_each : {X : Type 0} (P : X → Type 0) (xs ys : List X) → AllByRecursion P xs → AllByRecursion P ys → AllByRecursion P (xs ++ ys)
-append_each P [] ys all all' = all'
-append_each P (x ∷ xs) ys all all' = (all.0, append_each P xs ys all.1 all')
 
 kept_each : {X : Type 0} (P : X → Type 0) (b : Bool) (x : X) (xs : List X) → P x → AllByRecursion P xs → AllByRecursion P (cond b (x ∷ xs) xs)
 kept_each P true x xs is all = (is, all)

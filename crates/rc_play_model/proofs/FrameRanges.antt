@@ -1,8 +1,9 @@
 -- Frames stay within the members of their stages: through effects, steps and choices.
 use Rattle.std.proofs.Common.{◌≡◌, ℕ, zero, suc, ◌+◌, ◌-◌, ◌<◌, ◌≤◌, nat_le, Bool, true, false, if◌then◌else◌, List, [], ◌∷◌, ◌++◌, length, get_or, map, slice_index, slice_set, Option, Some, None, refl, sym, ◌∙◌, subst, arith, mod-lt, length-set}
 use Rattle.std.specs.Prelude.{fold, unwrap_or}
-use Rattle.std.specs.List.{AllByRecursion, AllZip, list_any}
+use Rattle.std.specs.List.{AllByRecursion, list_any}
 use Rattle.rc_model.specs.Numbers.{below}
+use Rattle.rc_deck.proofs.EachLemmas.{append_each, zip_push}
 use Rattle.rc_sheet_model.specs.Sheet.{Class, Effect, move, move_all, remember, forget, shuffle, set_to, increase, decrease, when, repeat, for_each, next_is, turn_round, peek, Effects, no_effect, effect, Domain, each_player, each_card, each_group, Alt, do_alt, if_alt, any_alt, SheetItem, do_item, stage, choice, SheetItems, no_item, item}
 use Rattle.rc_sheet_model.specs.Naming.{class_of}
 use Rattle.rc_sheet_model.specs.Lists.{item_list}
@@ -21,16 +22,9 @@ use Rattle.rc_play_model.specs.Decision.{with_choice, choose_first}
 use Rattle.rc_play_model.specs.Fits.{around, IsFrameOf}
 use Rattle.rc_play_model.proofs.StopFacts.{Of, Of-if}
 use Rattle.rc_play_model.proofs.KeptLemmas.{There}
-use Rattle.rc_play_model.proofs.CardLemmas.{append_each, map_each, get_each, numbers_below}
+use Rattle.rc_play_model.proofs.CardLemmas.{map_each, get_each, numbers_below}
 use Rattle.rc_play_model.proofs.StageLemmas.{HasStages, HaveStages}
 use Rattle.rc_play_model.proofs.RangeLemmas.{some_owners, IsStage, AreFrames, class_same, current_within, IsPlayerBind, ArePlayerBinds, who_within}
-
--- one more of each of two lists
-zip_push : {A B : Type 0} (R : A → B → Type 0) (xs : List A) (ys : List B) (x : A) (y : B) → AllZip R xs ys → R x y → AllZip R (xs ++ x ∷ []) (ys ++ y ∷ [])
-zip_push R [] [] x y all is = (is, tt)
-zip_push R [] (y' ∷ ys) x y all is = absurd all
-zip_push R (x' ∷ xs) [] x y all is = absurd all
-zip_push R (x' ∷ xs) (y' ∷ ys) x y all is = (all.0, zip_push R xs ys x y all.1 is)
 
 module _ (about : About) (fits : about.shape ≡ shape_of about.sheet) (formed : IsWellFormed about.sheet) where
   abbrev Stands : Stage → Type 0

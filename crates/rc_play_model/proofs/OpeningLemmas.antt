@@ -13,12 +13,13 @@ use Rattle.rc_model.specs.Numbers.{below}
 use Rattle.rc_model.specs.Clamp.{IsWithinClamp}
 use Rattle.rc_model.specs.Limits.{most_in_mem}
 use Rattle.rc_deck.specs.Product.{faces_of_groups}
+use Rattle.rc_deck.proofs.EachLemmas.{append_each}
 use Rattle.rc_sheet_model.specs.Sheet.{Class, game_class, LocName, DeckLine, Sheet}
 use Rattle.rc_sheet_model.specs.WellFormed.{is_mem, owner_count, IsDeck, IsWellFormed}
 use Rattle.rc_play_model.specs.Shape.{Place, Shape, homes_of, first_loc, shape_of}
 use Rattle.rc_play_model.specs.Table.{times_in, references_in, IsSound, AreSeats, at_home, opening}
 use Rattle.rc_play_model.specs.Bound.{HoldsCards, HasHomes}
-use Rattle.rc_play_model.proofs.CardLemmas.{append_each, filter_each, numbers_below}
+use Rattle.rc_play_model.proofs.CardLemmas.{filter_each, numbers_below}
 use Rattle.rc_play_model.proofs.Counting.{passing-is, kept, left_out, once_below}
 use Rattle.rc_play_model.proofs.MarkLemmas.{no_seats, none_marked, none_hides}
 use Rattle.rc_play_model.proofs.Places.{place_within, place_stands}

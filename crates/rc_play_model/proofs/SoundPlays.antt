@@ -3,6 +3,7 @@ use Rattle.std.proofs.Common.{◌≡◌, ℕ, zero, suc, ◌<◌, nat_le, Bool, 
 use Rattle.std.specs.List.{AllByRecursion}
 use Rattle.std.specs.List.Sorted.{IsPermutation}
 use Rattle.rc_model.specs.Numbers.{below}
+use Rattle.rc_deck.proofs.EachLemmas.{append_each}
 use Rattle.rc_sheet_model.specs.Sheet.{Class, game_class, player_class, team_class, Test, Alt, do_alt, if_alt, any_alt, do_item, stage, choice, SheetItems, no_item, item}
 use Rattle.rc_sheet_model.specs.Naming.{sort_of}
 use Rattle.rc_sheet_model.specs.Lists.{item_list}
@@ -20,7 +21,7 @@ use Rattle.rc_play_model.specs.Decision.{choose_first}
 use Rattle.rc_play_model.specs.Play.{reached}
 use Rattle.rc_play_model.proofs.StopFacts.{Of, Of-if}
 use Rattle.rc_play_model.proofs.KeptLemmas.{There, reached_holds}
-use Rattle.rc_play_model.proofs.CardLemmas.{append_each, item_binds}
+use Rattle.rc_play_model.proofs.CardLemmas.{item_binds}
 use Rattle.rc_play_model.proofs.EffectLemmas.{there, all_sound}
 use Rattle.rc_play_model.proofs.OpeningLemmas.{sheet_homes, opening_sound}
 

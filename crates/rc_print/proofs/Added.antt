@@ -1,9 +1,6 @@
 -- What is printed in several steps.
-use Rattle.std.proofs.Common.{◌≡◌, ℕ, List, [], ◌++◌, Result, Ok, Err, OnOk, sym, ap, ◌∙◌, append_assoc, append-nil}
-
-pub on_ok : {A E P Q : Type 0} (result : Result A E) → OnOk result P → (P → Q) → OnOk result Q
-on_ok (Ok a) holds more = more holds
-on_ok (Err e) holds more = tt
+use Rattle.std.proofs.Common.{◌≡◌, ℕ, List, [], ◌++◌, Result, OnOk, sym, ap, ◌∙◌, append_assoc, append-nil}
+use Rattle.rc_deck.proofs.EachLemmas.{on_ok}
 
 -- these bytes are added
 pub record Adds (old new bytes : List ℕ) : Type 0 where

@@ -6,6 +6,7 @@ use Rattle.std.proofs.lemmas.List.Concat.{flat_map-append}
 use Rattle.std.proofs.lemmas.List.Elements.{filter_map-append}
 use Rattle.rc_model.specs.Numbers.{below}
 use Rattle.rc_model.specs.Transcript.{Record}
+use Rattle.rc_deck.proofs.RangeLemmas.{below_push}
 use Rattle.rc_play_model.specs.About.{About}
 use Rattle.rc_play_model.specs.Plan.{Plan}
 use Rattle.rc_play_model.specs.Keyed.{keyed_match}
@@ -13,7 +14,6 @@ use Rattle.rc_redraw.specs.Counts.{Counts}
 use Rattle.rc_redraw.specs.Choosing.{AsksAll, AsksSome}
 use Rattle.rc_rules.specs.declared.plan.Plan.{Plan as StoredPlan}
 use Rattle.rc_rules.specs.Plan.{deal_seen, plan_seen}
-use Rattle.rc_rules.proofs.PointLemmas.{below_push}
 use Rattle.rc_match.specs.Asks.{asks_of}
 use Rattle.rc_match.specs.declared.playing.Played.{Played}
 use Rattle.rc_match.proofs.AskLemmas.{IsFront, asks_then, some_then, some_of}

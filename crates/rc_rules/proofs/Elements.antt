@@ -3,9 +3,7 @@ use Rattle.std.proofs.Common.{◌≡◌, ℕ, ◌+◌, ◌<◌, ◌≤◌, min, 
 use Rattle.std.specs.Prelude.{All, sum_by}
 use Rattle.std.proofs.lemmas.List.{at_drop_more, length-map}
 use Rattle.std.proofs.lemmas.List.Sums.{sum_by_more, sum_by_more_le}
-use Rattle.std.proofs.lemmas.List.FromFn.{length-range_with_len}
 use Rattle.std.proofs.Math.ListN.{get_or-map}
-use Rattle.rc_model.specs.Numbers.{below}
 
 pub drop_here : {X : Type 0} (xs : List X) (i : ℕ) (x : X) → i < length xs → x ≡ get_or xs i x → drop i xs ≡ x ∷ drop (i + 1) xs
 drop_here xs i x lt is = at_drop_more (λ ys. ys) xs i x lt ∙ ap (λ y. y ∷ drop (i + 1) xs) (sym is)
@@ -16,9 +14,6 @@ map_here f xs i x lt is = ap f is ∙ sym (get_or-map f xs i x)
 pub each_here : {X Y : Type 0} (P : Y → Type 0) (f : X → Y) (xs : List X) (i : ℕ) (x : X) → All P (map f xs) → i < length xs → x ≡ get_or xs i x → P (f x)
 each_here P f xs i x all lt is =
     subst P (sym (map_here f xs i x lt is)) (all i (f x) (omega (arith, length-map xs f)))
-
-pub below_length : (n : ℕ) → length (below n) ≡ n
-below_length n = length-range_with_len 0 n
 
 -- one more of what is counted
 module _ {N M : Type 0} (seen : N → M) (count : M → ℕ) (names : List N) where

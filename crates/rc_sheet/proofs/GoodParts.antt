@@ -1,8 +1,9 @@
 -- Trees that stand well in a form: they are of their place's shape, and all their parts are fine. A list that stands well is
 -- a form each of whose parts does.
-use Rattle.std.proofs.Common.{◌≡◌, ℕ, ◌+◌, ◌≤◌, Bool, true, false, cond, List, [], ◌∷◌, ◌++◌, Option, Some, None, option_map, nat_lt, refl, sym, subst, ap, ◌∙◌, arith, ltb-true}
+use Rattle.std.proofs.Common.{◌≡◌, ℕ, ◌+◌, ◌≤◌, Bool, true, false, cond, List, [], Option, Some, None, option_map, nat_lt, refl, sym, subst, ap, ◌∙◌, arith, ltb-true}
 use Rattle.std.specs.List.{AllByRecursion}
 use Rattle.rc_model.specs.Tree.{Tree, word, list, Trees, nil, cons}
+use Rattle.rc_deck.proofs.EachLemmas.{parts_of_append}
 use Rattle.rc_sheet_model.specs.Naming.{Naming}
 use Rattle.rc_faults.specs.SecondParts.{Standing, parts_at, parts_in, standing_in, with_form}
 use Rattle.rc_grammar.specs.Grammar.{forms_of}
@@ -36,12 +37,6 @@ mutual
       → ((parts : Trees) (from to : ℕ) → Each P parts → P (list parts from to)) → (trees : Trees) → Each P trees
   each_by_parts words lists nil = tt
   each_by_parts words lists (cons tree trees) = (by_parts words lists tree, each_by_parts words lists trees)
-
--- of both
-pub all_of_both : {A : Type 0} (P : A → Type 0) (xs ys : List A) → AllByRecursion P (xs ++ ys)
-    → AllByRecursion P xs × AllByRecursion P ys
-all_of_both P [] ys all = (tt, all)
-all_of_both P (x ∷ xs) ys all = let rest = all_of_both P xs ys all.1 in ((all.0, rest.0), rest.1)
 
 -- so many parts, and one more at least
 pub one_and_more : (P : Trees → Type 0) (parts : Trees) → nat_lt 1 (count parts) ≡ true
@@ -114,7 +109,7 @@ module _ (given : Given) (naming : Naming) where
   are_good at rule all index nil shaped fine = tt
   are_good at rule all index (cons tree trees) shaped fine =
       let none = none_in_both (faults_at (place_at rule (count all) index) tree) _ shaped in
-      let both = all_of_both (IsFine given naming) (parts_at (standing_in at rule all index) tree) _ fine in (
+      let both = parts_of_append (IsFine given naming) (parts_at (standing_in at rule all index) tree) _ fine in (
         good_at (place_at rule (count all) index) _ tree (λ place. refl) none.0 both.0,
         are_good at rule all (index + 1) trees none.1 both.1,
       )

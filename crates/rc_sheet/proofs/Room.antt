@@ -1,8 +1,9 @@
 -- A scope has no more variables than binders stand around it, and one.
-use Rattle.std.proofs.Common.{ℕ, ◌+◌, ◌≤◌, Bool, true, false, ◌&&◌, cond, List, [], ◌∷◌, ◌++◌, length, Option, Some, None, option_map, arith, length-append}
+use Rattle.std.proofs.Common.{ℕ, ◌+◌, ◌≤◌, Bool, true, false, ◌&&◌, cond, List, [], ◌∷◌, length, Option, Some, None, option_map, arith, length-append}
 use Rattle.std.specs.Prelude.{nat_lt}
 use Rattle.std.specs.List.{AllByRecursion}
 use Rattle.rc_model.specs.Tree.{Tree, word, list, Trees, nil, cons}
+use Rattle.rc_deck.proofs.EachLemmas.{append_each}
 use Rattle.rc_sheet_model.specs.Sheet.{Sort}
 use Rattle.rc_sheet_model.specs.WellFormed.{Around, in_repeat}
 use Rattle.rc_grammar.specs.Faults.{rule_of, place_at, count}
@@ -40,12 +41,6 @@ room_in around r parts index room =
     either_room (is_binder r && nat_lt 2 index) (bound_in around (word_in 2 parts) (sort_over (part_at 1 parts))) around
     (room_behind around (word_in 2 parts) (sort_over (part_at 1 parts)) room) room
 
--- both of two lists
-pub all_both : {A : Type 0} (P : A → Type 0) (xs ys : List A) → AllByRecursion P xs → AllByRecursion P ys
-    → AllByRecursion P (xs ++ ys)
-all_both P [] ys first second = second
-all_both P (x ∷ xs) ys first second = (first.0, all_both P xs ys first.1 second)
-
 -- every part has room around it
 abbrev pub Roomy : Part → Type 0
 Roomy part = HasRoom (standing_of part).around
@@ -73,7 +68,7 @@ mutual
       → AllByRecursion Roomy (parts_in at r all index trees)
   row_roomy at r all index nil room = tt
   row_roomy at r all index (cons tree trees) room =
-      all_both Roomy (parts_at (standing_in at r all index) tree) (parts_in at r all (index + 1) trees)
+      append_each Roomy (parts_at (standing_in at r all index) tree) (parts_in at r all (index + 1) trees)
       (placed_roomy at r all index (place_at r (count all) index) tree
       (λ q. tree_roomy (standing_at at r all index q) tree (room_in at.around r all index room)))
       (row_roomy at r all (index + 1) trees room)

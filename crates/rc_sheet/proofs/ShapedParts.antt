@@ -4,6 +4,7 @@ use Rattle.std.specs.List.{AllByRecursion, list_all}
 use Rattle.std.proofs.lemmas.Bool.{and_parts, le-leb, not-true}
 use Rattle.std.proofs.lemmas.Option.{same_Some}
 use Rattle.rc_model.specs.Tree.{Tree, word, list, Trees, nil, cons}
+use Rattle.rc_deck.proofs.EachLemmas.{append_each}
 use Rattle.rc_sheet_model.specs.WellFormed.{is_atom}
 use Rattle.rc_grammar.specs.Grammar.{forms_of, front_of}
 use Rattle.rc_grammar.specs.Faults.{atom_kind, faults, faults_at, faults_in, behind_front, or_behind, place_at, count, fits}
@@ -18,7 +19,6 @@ use Rattle.rc_form.specs.SameForm.{IsAtom, IsOfAtoms, AreOfAtoms}
 use Rattle.rc_sheet.proofs.Shapes.{none_in_both, shape_of, rule_holds, kindless}
 use Rattle.rc_sheet.proofs.Bodies.{each_passes, standing_at}
 use Rattle.rc_sheet.proofs.Lands.{is_given}
-use Rattle.rc_sheet.proofs.Room.{all_both}
 
 -- an atom of a form is one of a sheet
 pub atom_is : (bytes : List ℕ) → IsAtom bytes → is_atom bytes ≡ true
@@ -140,7 +140,7 @@ mutual
   row_shaped at r all index nil gives atoms none = tt
   row_shaped at r all index (cons tree trees) gives atoms none =
       let apart = none_in_both (faults_at (place_at r (count all) index) tree) (faults_in r (count all) (index + 1) trees) none in
-      all_both IsShaped _ (parts_in at r all (index + 1) trees)
+      append_each IsShaped _ (parts_in at r all (index + 1) trees)
       (placed at r all index (place_at r (count all) index) tree apart.0
       (λ q is fine. tree_shaped (standing_at at r all index q) tree (gives index q is) atoms.0 fine))
       (row_shaped at r all (index + 1) trees gives atoms.1 apart.1)

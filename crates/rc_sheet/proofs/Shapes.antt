@@ -8,6 +8,7 @@ use Prim.Native.String.{String}
 use Rattle.std.proofs.lemmas.Bool.{false_from_ne_true}
 use Rattle.std.proofs.lemmas.Slice.Eq.{bytes_eq-Decides}
 use Rattle.rc_model.specs.Tree.{Tree, word, list, Trees, nil, cons}
+use Rattle.rc_deck.proofs.EachLemmas.{past_end}
 use Rattle.rc_sheet_model.specs.FormMentions.{is_text}
 use Rattle.rc_grammar.specs.Keyword.{text_of}
 use Rattle.rc_grammar.specs.Grammar.{forms_of, front_of, more_of}
@@ -86,11 +87,6 @@ place_or : (found behind : Option Symbol) → ((found ≡ None) → (p : Symbol)
 place_or (Some p) behind other = (p, refl)
 place_or None behind other = other refl
 
-past_none : {A : Type 0} (xs : List A) (i : ℕ) → slice_get xs i ≡ None → length xs ≤ i
-past_none [] i is = omega arith
-past_none (x ∷ xs) zero is = absurd cc
-past_none (x ∷ xs) (suc i) is = let less = past_none xs i is in omega (arith, less)
-
 behind_place : (r : Rule) (n i : ℕ) (last : Bool) (more : Option Symbol) → more_of r ≡ more
     → fits_count (length (front_of r)) more (back_of r) n ≡ true → i < n → length (front_of r) ≤ i
     → (p : Symbol) × (behind_front r last ≡ Some p)
@@ -102,7 +98,7 @@ behind_place r n i last (Some more) is fit less past = behind_some r last more i
 pub place_within : (r : Rule) (n i : ℕ) → fits n r ≡ true → i < n → (p : Symbol) × (place_at r n i ≡ Some p)
 place_within r n i fit less =
     place_or (slice_get (front_of r) i) (behind_front r (i + 1 == n))
-    (λ none. behind_place r n i (i + 1 == n) (more_of r) refl fit less (past_none (front_of r) i none))
+    (λ none. behind_place r n i (i + 1 == n) (more_of r) refl fit less (past_end (front_of r) i none))
 
 -- behind the word of a setup stand lines
 pub line_place : (n index : ℕ) → 1 ≤ index → place_at rule.Setup n index ≡ Some symbol.Line

@@ -6,6 +6,7 @@ use Rattle.std.proofs.lemmas.Grind.{flat_map-append}
 use Rattle.std.proofs.lemmas.Bool.{and_parts, not-false}
 use Rattle.rc_model.specs.Literal.{integer}
 use Rattle.rc_model.specs.Tree.{Tree, word, list, Trees, nil, cons}
+use Rattle.rc_deck.proofs.EachLemmas.{append_each}
 use Rattle.rc_grammar.specs.Keyword.{text_of}
 use Rattle.rc_grammar.specs.Faults.{faults, faults_at, faults_in, told_faults, lacks_players, names_players, some_names_players, rule_of, or_else, place_at, count, fits, is_within}
 use Rattle.rc_grammar.specs.declared.fault.SheetKind.TheVariants.{Number}
@@ -20,7 +21,6 @@ use Rattle.rc_faults.specs.SecondFaults.{second_faults}
 use Rattle.rc_sheet.proofs.Shapes.{none_in_both, three_only, atom_only, inner_faults, taken, line_place}
 use Rattle.rc_sheet.proofs.Bodies.{standing_at}
 use Rattle.rc_sheet.proofs.Whole.{setup_of, parts_with, sheet_only}
-use Rattle.rc_sheet.proofs.Room.{all_both}
 
 -- EACH PART HAS ITS SHAPE
 
@@ -63,7 +63,7 @@ mutual
   trees_shaped at r all index nil none = tt
   trees_shaped at r all index (cons tree trees) none =
       let apart = none_in_both (faults_at (place_at r (count all) index) tree) (faults_in r (count all) (index + 1) trees) none in
-      all_both IsShaped (parts_at (standing_in at r all index) tree) (parts_in at r all (index + 1) trees)
+      append_each IsShaped (parts_at (standing_in at r all index) tree) (parts_in at r all (index + 1) trees)
       (tree_shaped (standing_in at r all index) tree
       (subst (λ o. faults_at o tree ≡ []) (sym (same_place (place_at r (count all) index) _ (λ p. refl))) apart.0))
       (trees_shaped at r all (index + 1) trees apart.1)
@@ -74,7 +74,7 @@ flat_all : {A : Type 0} (P : A → Type 0) (f : Part → List A) (parts : List P
     → AllByRecursion P (flat_map f parts)
 flat_all P f [] each shaped = tt
 flat_all P f (part ∷ parts) each shaped =
-    all_both P (f part) (flat_map f parts) (each part shaped.0) (flat_all P f parts each shaped.1)
+    append_each P (f part) (flat_map f parts) (each part shaped.0) (flat_all P f parts each shaped.1)
 
 -- NUMBERS OF PLAYERS
 

@@ -7,7 +7,7 @@ use arrayvec::ArrayVec;
 use rc_names::limits::MOST_IN_LIST;
 
 /// The places of a list of so many items, in order.
-#[tactic(auto, using(crate::proofs::Orders::below_more))]
+#[tactic(auto, using(rc_deck::proofs::RangeLemmas::below_push))]
 pub fn places(count: usize) -> ArrayVec<u16, MOST_IN_LIST>
     requires few { count ≤ most_in_list }
     ensures { result.items ≡ below count }

@@ -8,10 +8,10 @@ use Rattle.std.proofs.lemmas.List.Elements.{recursion_from_All}
 use Rattle.std.proofs.lemmas.List.FromFn.{length-range_with_len}
 use Rattle.std.proofs.lemmas.List.Sums.{sum_by-cons}
 use Rattle.rc_model.specs.Numbers.{below}
+use Rattle.rc_deck.proofs.EachLemmas.{append_each}
 use Rattle.rc_sheet_model.specs.WellFormed.{is_mem}
 use Rattle.rc_play_model.specs.Shape.{Place, Shape, holds_references}
 use Rattle.rc_play_model.specs.Table.{Table, IsSound, list_at, times_in, references_in, has_room, onto, under, remember_top, remember_bottom}
-use Rattle.rc_play_model.proofs.CardLemmas.{append_each}
 use Rattle.rc_play_model.proofs.Counting.{passing, same, passing-is, passing-append, passing-all, each_once}
 use Rattle.rc_table.specs.Shape.{IsShape}
 use Rattle.rc_table.specs.Laid.{room_in, rooms}

@@ -9,6 +9,7 @@ use Rattle.std.proofs.lemmas.List.FromFn.{get_or-map-range_with_len, length-rang
 use Rattle.std.proofs.lemmas.List.Sums.{length-filter, count_by-le-length}
 use Rattle.std.proofs.lemmas.Option.{slice_get_within}
 use Rattle.rc_model.specs.Numbers.{below}
+use Rattle.rc_deck.proofs.RangeLemmas.{range_push}
 use Rattle.rc_play_model.specs.Shape.{Shape}
 use Rattle.rc_play_model.specs.Bound.{HasHomes}
 use Rattle.rc_play_model.proofs.OpeningLemmas.{differs}
@@ -20,18 +21,12 @@ use Rattle.rc_table.proofs.WhereaboutLemmas.{no_references}
 abbrev pub begun : List ℕ → ℕ → ℕ → List ℕ
 begun home n loc = filter (λ id. slice_index home id == loc) (below n)
 
-numbers_push : (a n : ℕ) → range_with_len a (suc n) ≡ range_with_len a n ++ (a + n) ∷ []
-numbers_push a zero = let first : a ≡ a + 0 = omega arith in ap (λ k. k ∷ []) first
-numbers_push a (suc n) =
-    let next : a + 1 + n ≡ a + suc n = omega arith in
-    ap (λ xs. a ∷ xs) (numbers_push (a + 1) n ∙ ap (λ k. range_with_len (a + 1) n ++ k ∷ []) next)
-
 begun_push : (home : List ℕ) (n loc : ℕ) → begun home (n + 1) loc ≡ begun home n loc ++ cond (slice_index home n == loc) (n ∷ []) []
 begun_push home n loc =
     let more : n + 1 ≡ suc n = omega arith in
     let last : 0 + n ≡ n = omega arith in
     ap (λ k. begun home k loc) more
-    ∙ ap (filter (λ id. slice_index home id == loc)) (numbers_push 0 n ∙ ap (λ k. below n ++ k ∷ []) last)
+    ∙ ap (filter (λ id. slice_index home id == loc)) (range_push 0 n ∙ ap (λ k. below n ++ k ∷ []) last)
     ∙ filter-append (λ id. slice_index home id == loc) (below n) (n ∷ [])
 
 begun_here : (home : List ℕ) (n loc : ℕ) → slice_index home n ≡ loc → begun home (n + 1) loc ≡ begun home n loc ++ n ∷ []

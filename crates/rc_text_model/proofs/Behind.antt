@@ -5,7 +5,7 @@ use Rattle.std.proofs.lemmas.Bool.{cond-true}
 use Rattle.rc_model.specs.Token.{Token, opening, closing, atom, odd, offset_of, is_blank, is_part, atom_front, Place, between, in_atom, in_comment, place_behind, token_with, token_at, tokens_from, tokens}
 use Rattle.rc_model.specs.Tree.{Tree, spelling}
 use Rattle.rc_model.specs.Spelled.{next_offset, Spelled}
-use Rattle.rc_play_model.proofs.CardLemmas.{append_each}
+use Rattle.rc_deck.proofs.EachLemmas.{append_each}
 
 -- ---- tokens before an LF and behind it
 

@@ -133,10 +133,6 @@ follows (ranking matches standings) (ranked s) good is = (
 
 -- ---- runs
 
-pub all_append : {A : Type 0} (P : A → Type 0) (xs ys : List A) → AllByRecursion P xs → AllByRecursion P ys → AllByRecursion P (xs ++ ys)
-all_append P [] ys all all' = all'
-all_append P (x ∷ xs) ys all all' = (all.0, all_append P xs ys all.1 all')
-
 abbrev Reaches : Place → List Line → Place → Type 0
 Reaches p ls q = IsGood q × (lines_at q ≡ lines_at p ++ ls)
 

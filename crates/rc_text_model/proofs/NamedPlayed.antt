@@ -16,11 +16,12 @@ use Rattle.rc_play_model.specs.Table.{IsSound}
 use Rattle.rc_play_model.specs.About.{About, scene_at}
 use Rattle.rc_play_model.specs.Step.{Config, Stop, decide, is_done, is_limit}
 use Rattle.rc_play_model.specs.Stop.{Stopped}
-use Rattle.rc_play_model.proofs.CardLemmas.{get_each, map_each, append_each, read_cards, item_binds}
+use Rattle.rc_play_model.proofs.CardLemmas.{get_each, map_each, read_cards, item_binds}
 use Rattle.rc_play_model.proofs.Faces.{face_eq_self}
 use Rattle.std.specs.List.Sorted.{IsPermutation}
 use Rattle.rc_sheet_model.specs.Naming.{sort_of}
 use Rattle.rc_model.specs.Numbers.{below}
+use Rattle.rc_deck.proofs.EachLemmas.{append_each}
 use Rattle.rc_play_model.specs.Shape.{shape_of}
 use Rattle.rc_play_model.specs.Effects.{Dealing}
 use Rattle.rc_play_model.specs.Play.{items_of, reached}

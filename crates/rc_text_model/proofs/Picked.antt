@@ -6,6 +6,7 @@ use Rattle.std.proofs.lemmas.List.{length-map, length-take, length-replicate}
 use Rattle.std.proofs.lemmas.List.Elements.{recursion_from_All}
 use Rattle.std.proofs.lemmas.Option.{same_Some, slice_get-get_or}
 use Rattle.rc_model.specs.Transcript.{Pick}
+use Rattle.rc_deck.proofs.EachLemmas.{append_each}
 use Rattle.rc_sheet_model.specs.Sheet.{player_class}
 use Rattle.rc_sheet_model.specs.Lists.{item_list}
 use Rattle.rc_sheet_model.specs.Mentions.{sites_in}
@@ -21,7 +22,6 @@ use Rattle.rc_play_model.specs.Fits.{around}
 use Rattle.rc_play_model.specs.Play.{Played, pick_at, reached}
 use Rattle.rc_play_model.specs.Plan.{Plan, deal_at}
 use Rattle.rc_play_model.specs.Keyed.{dealing_of, chooser_of, keyed_play}
-use Rattle.rc_play_model.proofs.CardLemmas.{append_each}
 use Rattle.rc_play_model.proofs.ControlLemmas.{control_fits, zeros}
 use Rattle.rc_play_model.proofs.FitLemmas.{keyed_fit, keyed_leads}
 use Rattle.rc_play_model.proofs.FrontLemmas.{front_reached}

@@ -7,6 +7,7 @@ use Rattle.std.proofs.lemmas.List.FromFn.{length-range_with_len}
 use Rattle.std.proofs.lemmas.List.Sorted.{length_permutation}
 use Rattle.rc_model.specs.Numbers.{below}
 use Rattle.rc_model.specs.Transcript.{Score, Record, Standing}
+use Rattle.rc_deck.proofs.EachLemmas.{append_each}
 use Rattle.rc_text_model.specs.Lines.{chosen, shuffled, ending, scored, ranked, IsInRange}
 use Rattle.rc_text_model.specs.HouseText.{shuffles_told, played_lines, told_lines, ended_lines, record_lines, IsHouseText}
 use Rattle.rc_play_model.specs.About.{About}
@@ -15,7 +16,7 @@ use Rattle.rc_play_model.specs.Scores.{score_at, scores_of, record_of}
 use Rattle.rc_play_model.specs.Plan.{Plan, deal_at}
 use Rattle.rc_play_model.specs.House.{points_of, standings_of}
 use Rattle.rc_play_model.specs.Keyed.{choice_of, dealing_of, keyed_match, keyed_play}
-use Rattle.rc_play_model.proofs.CardLemmas.{append_each, map_each}
+use Rattle.rc_play_model.proofs.CardLemmas.{map_each}
 use Rattle.rc_play_model.proofs.FitLemmas.{keyed_leads}
 use Rattle.rc_play_model.proofs.FollowLemmas.{mapped}
 use Rattle.rc_play_model.proofs.MatchLemmas.{all_recorded}

@@ -8,10 +8,11 @@ use Rattle.std.proofs.lemmas.List.Sums.{sum_by-cons, sum_by-le}
 use Rattle.std.proofs.lemmas.Nat.{div-add-mod', mul-le}
 use Rattle.rc_model.specs.Numbers.{below}
 use Rattle.rc_model.specs.Transcript.{Record, Score, Standing}
+use Rattle.rc_deck.proofs.EachLemmas.{append_each}
 use Rattle.rc_text_model.specs.Lines.{ranked, IsInRange}
 use Rattle.rc_play_model.specs.Plan.{Plan, strategy_held}
 use Rattle.rc_play_model.specs.House.{points_at, points_in, points_of, rank_of, standing_of, in_order, standings_of}
-use Rattle.rc_play_model.proofs.CardLemmas.{append_each, filter_each, map_each, get_each, numbers_below}
+use Rattle.rc_play_model.proofs.CardLemmas.{filter_each, map_each, get_each, numbers_below}
 use Rattle.rc_play_model.proofs.RankLemmas.{rank_within}
 use Rattle.rc_play_model.proofs.StandingLemmas.{points_long}
 

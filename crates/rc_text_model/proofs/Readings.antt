@@ -3,6 +3,7 @@ use Rattle.std.proofs.Common.{◌≡◌, ℕ, Bool, true, List, [], ◌∷◌, �
 use Rattle.std.specs.List.{AllByRecursion}
 use Rattle.std.proofs.lemmas.List.{map-append}
 use Rattle.std.proofs.lemmas.List.Concat.{flat_map-append}
+use Rattle.rc_deck.proofs.EachLemmas.{append_each}
 use Rattle.rc_text_model.specs.Fields.{behind, last}
 use Rattle.rc_play_model.specs.ItemBounds.{Bound}
 use Rattle.rc_text_model.specs.Lines.{Line, opening, chosen, shuffled, ending, scored, ranked, IsInRange, Marked, bare, marked_text, HasMarks, IsMarkedInRange, line_of}
@@ -14,7 +15,7 @@ use Rattle.rc_text_model.proofs.FieldLemmas.{bind_some, bind_is, some_is, behind
 use Rattle.rc_text_model.proofs.LineLemmas.{line-only, line-again}
 use Rattle.rc_text_model.proofs.LineCuts.{with_end_byte}
 use Rattle.rc_text_model.proofs.SameTexts.{joined_head, text_spelled, text_one}
-use Rattle.rc_text_model.proofs.Grammar.{all_append, run_good, whole_good, finishes, text_taken}
+use Rattle.rc_text_model.proofs.Grammar.{run_good, whole_good, finishes, text_taken}
 use Rattle.rc_text_model.proofs.LineGrammars.{IsGrammarOf, run_append}
 use Rattle.rc_text_model.proofs.LineFaults.{fewer}
 use Rattle.rc_text_model.proofs.Threaded.{lines_in_all, onto_marks, marks_told, same_lines, same_marks, threaded, line_ranges}
@@ -168,7 +169,7 @@ goes_on : (f : Format) (told : List Marked) (q : Place) → AllByRecursion (IsMa
 goes_on f told q ranges leads =
     let end = finishes q in
     let more = map bare end.more in
-    let all = all_append (IsMarkedInRange f.named) told more ranges (others f.named end.more end.ranges) in
+    let all = append_each (IsMarkedInRange f.named) told more ranges (others f.named end.more end.ranges) in
     let there : run take_line headed (lines_in_all (told ++ more)) ≡ Some (ranking end.matches end.standings) =
     ap (run take_line headed) (map-append (λ m. m.0) told more ∙ ap (λ t. lines_in_all told ++ t) (bares_again end.more))
     ∙ run_append take_line headed (lines_in_all told) end.more ∙ bind_is (run take_line headed (lines_in_all told)) (λ q. run take_line q end.more) q (Some (ranking end.matches end.standings)) leads end.leads in

@@ -12,16 +12,13 @@ use Rattle.rc_match.specs.declared.playing.Played.{Played}
 use Rattle.rc_redraw.specs.Counts.{Counts}
 use Rattle.rc_match.specs.Asks.{asks_of}
 use Rattle.atomic_table.specs.Seated.{TableId}
+use Rattle.rc_deck.proofs.EachLemmas.{append_each}
 use Rattle.rc_claims.specs.Claims.{Pass, fresh, joined}
 use Rattle.rc_turns.specs.declared.turn.Worker.{Worker}
 use Rattle.rc_turns.specs.declared.turn.Turn.{Turn}
 use Rattle.rc_turns.specs.declared.gathering.Gathered.{Gathered}
 use Rattle.rc_turns.specs.Turns.{IsRecordIn, number_of, asked_by_all, counted, IsTurn}
 use Rattle.rc_turns.specs.Gathered.{AreTurns, IsOwn, looks_in, hits_in, keeps_in, IsGathered, Gathers}
-
-pub All-both : {X : Type 0} (P : X → Type 0) (xs ys : List X) → AllByRecursion P xs → AllByRecursion P ys → AllByRecursion P (xs ++ ys)
-All-both P [] ys a b = b
-All-both P (x ∷ xs) ys a b = (a.0, All-both P xs ys a.1 b)
 
 pub nothing_left : {X : Type 0} (xs : List X) → length xs ≡ 0 → xs ≡ []
 nothing_left [] none = refl
@@ -73,7 +70,7 @@ module _ {C : Type 0} (name : C → ℕ) (counts : C → Counts) (noted : Bool) 
             ∙ sym (map-append number_of records played);
         past =
             omega (arith, so_far.past, is.past, length-append records played, length-append pass.numbers turn.pass.numbers);
-        are = All-both (IsRecordIn noted about plan) records played so_far.are is.are;
+        are = append_each (IsRecordIn noted about plan) records played so_far.are is.are;
         named =
             map-append name choosers (turn.chooser ∷ [])
             ∙ ap (λ l. l ++ name turn.chooser ∷ []) so_far.named

@@ -3,6 +3,7 @@ use Rattle.std.proofs.Common.{◌≡◌, ℕ, zero, suc, ℤ, false, List, [], �
 use Rattle.std.specs.Prelude.{IfSome}
 use mathlib.Core.Path.{fun_ext}
 use Rattle.std.specs.List.{list_any, list_all}
+use Rattle.rc_deck.proofs.EachLemmas.{any-map}
 use Rattle.rc_sheet_model.specs.Sheet.{player_class, Who, game, current_player, current_team, team_of_current, team_of_var, who_var, Num, NumName, IntExpr, literal, number, Test}
 use Rattle.rc_sheet_model.specs.Naming.{class_of}
 use Rattle.rc_play_model.specs.Owners.{place_among}
@@ -15,7 +16,7 @@ use Rattle.rc_asked.specs.declared.atoms.Comparison.{Comparison}
 use Rattle.rc_value.specs.declared.comparing.Suited.{Suited}
 use Rattle.rc_value.specs.Comparing.{compare, number_held, suits, ArePaired, IsHisNumber, IsSameForAll, IsSuited}
 use Rattle.rc_value.proofs.HoldingLemmas.{his}
-use Rattle.rc_value.proofs.Steps.{all-map, any-map}
+use Rattle.rc_value.proofs.Steps.{all-map}
 
 -- a number of the player that the innermost variable stands for, where there may be none
 pub his_any : (place : ℕ) (num : Num) (e : IntExpr) (name : Option ℕ) → e ≡ number num →

@@ -12,7 +12,8 @@ use Rattle.rc_play_model.specs.Value.{Scene as PureScene, Bind as PureBind, play
 use Rattle.rc_value.specs.declared.players.Holding.{Holding}
 use Rattle.rc_value.specs.Holding.{holds, size_held, IsCompared, IsHisOwn, IsHolding}
 use Rattle.std.proofs.lemmas.List.{drop_all}
-use Rattle.rc_value.proofs.Steps.{all-map, any-map, all_here, all_on, any_here, any_on}
+use Rattle.rc_deck.proofs.EachLemmas.{any-map}
+use Rattle.rc_value.proofs.Steps.{all-map, all_here, all_on, any_here, any_on}
 use Rattle.rc_value.proofs.WantedLemmas.{at_end}
 
 -- what the innermost variable stands for

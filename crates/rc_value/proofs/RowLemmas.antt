@@ -5,6 +5,7 @@ use Rattle.std.specs.List.{list_any, list_all, filter}
 use Rattle.std.proofs.lemmas.List.{length-map, take_all}
 use Rattle.rc_model.specs.Numbers.{below}
 use Rattle.rc_model.specs.Deck.{value_at}
+use Rattle.rc_deck.proofs.EachLemmas.{any-map}
 use Rattle.rc_play_model.specs.Ends.{last_of}
 use Rattle.rc_play_model.specs.Scene.{CardValue, held, id_of, value_in}
 use Rattle.rc_play_model.specs.Shape.{face_at}
@@ -16,7 +17,7 @@ use Rattle.rc_value.specs.declared.wanted.Wanted.{Wanted}
 use Rattle.rc_value.specs.Scene.{scene_seen}
 use Rattle.rc_value.specs.Seen.{read_in}
 use Rattle.rc_value.specs.Wanted.{meets, wanted_value}
-use Rattle.rc_value.proofs.Steps.{all-map, any-map, count-map}
+use Rattle.rc_value.proofs.Steps.{all-map, count-map}
 
 id_in : (b : Bool) (loc id : ℕ) → id_of (value_in b loc id) ≡ id
 id_in true loc id = refl

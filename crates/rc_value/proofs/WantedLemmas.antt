@@ -4,6 +4,7 @@ use Rattle.std.specs.Prelude.{IfSome}
 use mathlib.Core.Path.{fun_ext}
 use Rattle.std.specs.List.{list_any, list_all}
 use Rattle.std.proofs.lemmas.Bool.Decides.{nat_tests}
+use Rattle.rc_deck.proofs.EachLemmas.{any-map}
 use Rattle.rc_sheet_model.specs.Sheet.{Loc, LocName, CardExpr, card_var, top_card, CollExpr, cards_in, Test, eq_attr, eq_card, has_value}
 use Rattle.rc_sheet_model.specs.Naming.{class_of}
 use Rattle.rc_play_model.specs.Owners.{place_among}
@@ -15,7 +16,7 @@ use Rattle.rc_value.specs.declared.wanted.Wanted.{Wanted}
 use Rattle.rc_value.specs.Wanted.{wanted_value, IsFixed, IsFixedCollection, IsFixedOwner, IsWanted, IsWantedAt}
 use Rattle.rc_value.specs.Sought.{has_face}
 use Rattle.rc_play_model.specs.Shape.{face_eq}
-use Rattle.rc_value.proofs.Steps.{all-map, any-map}
+use Rattle.rc_value.proofs.Steps.{all-map}
 
 pub at_end : {B : Type 0} (vars : List B) (m : B) → slice_get (vars ++ m ∷ []) (length vars) ≡ Some m
 at_end [] m = refl

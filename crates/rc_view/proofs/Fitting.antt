@@ -4,6 +4,7 @@ use Rattle.std.specs.Prelude.{IfSome}
 use Rattle.std.specs.List.{AllByRecursion, AllZip}
 use Rattle.std.proofs.lemmas.List.Elements.{All-from_recursion, recursion_from_All}
 use Rattle.rc_model.specs.Numbers.{below}
+use Rattle.rc_deck.proofs.EachLemmas.{append_each, parts_of_append}
 use Rattle.rc_sheet_model.specs.Sheet.{SheetItem, do_item, stage, choice, SheetItems, no_item, item, Sheet}
 use Rattle.rc_sheet_model.specs.Lists.{item_list}
 use Rattle.rc_sheet_model.specs.Mentions.{stages_in_item, stages_in}
@@ -12,8 +13,7 @@ use Rattle.rc_play_model.specs.Control.{Frame}
 use Rattle.rc_play_model.specs.Step.{Stage, Part, todo, round, turn, todos}
 use Rattle.rc_play_model.specs.Decision.{left_in_item, left_in, left_at}
 use Rattle.rc_play_model.specs.Fits.{around, IsFrameOf}
-use Rattle.rc_play_model.proofs.Parts.{split}
-use Rattle.rc_play_model.proofs.CardLemmas.{numbers_below, get_each, append_each}
+use Rattle.rc_play_model.proofs.CardLemmas.{numbers_below, get_each}
 use Rattle.rc_rules.proofs.ShapeLemmas.{owners_few}
 use Rattle.rc_view.specs.Laws.{HasFrameKey, FittingControlsHaveKeys}
 
@@ -43,7 +43,7 @@ module _ (P : ℕ → Type 0) where
         AllByRecursion AreStages (left_in site items rest)
     items_stages site no_item rest all are = tt
     items_stages site (item i items) rest all are =
-        let both = split P (stages_in_item i) (stages_in items) all in
+        let both = parts_of_append P (stages_in_item i) (stages_in items) all in
         append_each AreStages (left_in_item site i (todos (item_list items) ++ rest)) (left_in site items rest)
         (item_stages site i (todos (item_list items) ++ rest) both.0 (before_todos items rest are)) (items_stages site items rest both.1 are)
 

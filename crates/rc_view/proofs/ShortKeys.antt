@@ -9,13 +9,13 @@ use Rattle.std.proofs.lemmas.List.Elements.{recursion_from_All}
 use Rattle.std.proofs.lemmas.List.FromFn.{length-range_with_len}
 use Rattle.std.proofs.lemmas.List.Sums.{sum_by-cons, sum_by-le}
 use Rattle.rc_model.specs.Numbers.{below}
+use Rattle.rc_deck.proofs.EachLemmas.{append_each}
 use Rattle.rc_sheet_model.specs.WellFormed.{is_mem}
 use Rattle.rc_play_model.specs.Control.{Control}
 use Rattle.rc_play_model.specs.Shape.{Place, Shape, face_number}
 use Rattle.rc_play_model.specs.Sees.{sees_place}
 use Rattle.rc_play_model.specs.Table.{Table, IsSound, times_in, references_in}
 use Rattle.rc_play_model.specs.View.{known_face, sight_of, sights_of}
-use Rattle.rc_play_model.proofs.CardLemmas.{append_each}
 use Rattle.rc_play_model.proofs.Counting.{passing, same, passing-append, passing-all, each_once}
 use Rattle.rc_play_model.proofs.Filled.{mem_kind}
 use Rattle.rc_table.proofs.Held.{times_here, each_here}

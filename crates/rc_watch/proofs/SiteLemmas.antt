@@ -1,8 +1,9 @@
 -- Views that may stand in a log stand at a choice site.
-use Rattle.std.proofs.Common.{◌≡◌, ℕ, zero, suc, List, [], ◌∷◌, map, take, Option, Some, None, refl, sym, subst}
+use Rattle.std.proofs.Common.{◌≡◌, ℕ, List, [], ◌∷◌, map, take, Option, Some, None, refl, sym, subst}
 use Rattle.std.specs.Prelude.{All, IsSome}
 use Rattle.std.specs.List.{AllByRecursion}
 use Rattle.std.proofs.lemmas.List.Elements.{All-from_recursion}
+use Rattle.rc_deck.proofs.EachLemmas.{take_each}
 use Rattle.rc_play_model.specs.Shape.{Shape}
 use Rattle.rc_play_model.specs.View.{View as PureView}
 use Rattle.rc_view.specs.Seen.{view_seen}
@@ -17,14 +18,9 @@ stand : (shape : Shape) (seat : ℕ) (views : List View) → AllByRecursion (Cou
 stand shape seat [] all = tt
 stand shape seat (v ∷ views) all = (site_there v.control.site all.0.site, stand shape seat views all.1)
 
-first_all : {A : Type 0} (P : A → Type 0) (n : ℕ) (xs : List A) → AllByRecursion P xs → AllByRecursion P (take n xs)
-first_all P zero xs all = tt
-first_all P (suc n) [] all = tt
-first_all P (suc n) (x ∷ xs) all = (all.0, first_all P n xs all.1)
-
 -- so do the first of them
 pub first_stand : (shape : Shape) (seat n : ℕ) (views : List View) (seen : List PureView) → map view_seen views ≡ take n seen → AllByRecursion (Counts shape seat) seen →
     All (λ (v : View). IsSome v.control.site) views
 first_stand shape seat n views seen is all =
     All-from_recursion (λ (v : View). IsSome v.control.site) views
-    (stand shape seat views (subst (AllByRecursion (Counts shape seat)) (sym is) (first_all (Counts shape seat) n seen all)))
+    (stand shape seat views (subst (AllByRecursion (Counts shape seat)) (sym is) (take_each (Counts shape seat) n seen all)))

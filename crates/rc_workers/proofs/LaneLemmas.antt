@@ -5,7 +5,7 @@ use Rattle.std.proofs.lemmas.List.{map-append, append_assoc}
 use Rattle.std.proofs.lemmas.List.Elements.{All-from_recursion, recursion_from_All}
 use Rattle.std.proofs.lemmas.List.Sums.{sum_by-cons, sum_by_push}
 use Rattle.rc_model.specs.Numbers.{below}
-use Rattle.rc_rules.proofs.PointLemmas.{below_push}
+use Rattle.rc_deck.proofs.RangeLemmas.{below_push}
 use Rattle.rc_redraw.specs.Counts.{Counts}
 use Rattle.rc_cache.specs.Memos.{shared_counts}
 use Rattle.rc_cache.specs.Sums.{Lane, idle, idle_lanes}

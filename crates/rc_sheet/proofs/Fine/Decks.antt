@@ -11,6 +11,7 @@ use Rattle.std.proofs.lemmas.Slice.Eq.{bytes_eq-Decides}
 use Rattle.std.proofs.Math.Bool.{or-false}
 use Rattle.rc_model.specs.Tree.{Tree, word, list, Trees, nil, cons}
 use Rattle.rc_model.specs.Deck.{Groups, no_group, group, Branches, no_branch, branch}
+use Rattle.rc_deck.proofs.EachLemmas.{append_each}
 use Rattle.rc_sheet_model.specs.Sheet.{DeckLine, game_class, LocName, Who, game, SheetItems, Best, IntExpr, Sheet}
 use Rattle.rc_sheet_model.specs.Rows.{◌▸◌, End, Row}
 use Rattle.rc_sheet_model.specs.Naming.{Naming, KindOf, Named, loc_class, class_of}
@@ -45,7 +46,6 @@ use Rattle.rc_sheet.proofs.Given.Faces.{branch_behind, deck_behind}
 use Rattle.rc_sheet.proofs.Fine.Common.{Given, given_of}
 use Rattle.rc_sheet.proofs.GoodParts.{IsGood, GoodAt, AreGood, only_form}
 use Rattle.rc_sheet.proofs.Fine.Names.{kind_tells}
-use Rattle.rc_sheet.proofs.Room.{all_both}
 use Rattle.rc_sheet.proofs.Fine.Cards.{unless_none}
 use Rattle.rc_sheet.proofs.Fine.Teams.{not_both, both_hold}
 use Rattle.rc_sheet.proofs.Fine.Lines.{setup_in, setup_keeps}
@@ -418,7 +418,7 @@ decks_are_fine tree shaped sound =
         teams = λ said earlier at create second parts from to all line first is q. q;
         decks = λ said earlier at create second loc inner from to deck line is q.
             let parts = cons create (cons second (cons loc (cons inner nil))) in
-            all_both (IsDeckOf (given_of tree) (naming_of tree)) said.decks (deck ∷ []) q (
+            append_each (IsDeckOf (given_of tree) (naming_of tree)) said.decks (deck ∷ []) q (
               means_so _ deck (deck_line_fits (given_of tree) (naming_of tree)
                   (standing_at at rule.CreateDeck parts 2 symbol.Location) (standing_at at rule.CreateDeck parts 3 symbol.Deck) loc inner
                   refl refl line.good.good.1.1.0 refl line.good.good.1.1.1.0) is,

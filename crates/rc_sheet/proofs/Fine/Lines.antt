@@ -7,6 +7,7 @@ use Rattle.rc_model.specs.Tree.{Tree, word, list, Trees, nil, cons}
 use Rattle.rc_model.specs.Deck.{Entry}
 use Rattle.rc_sheet_model.specs.Sheet.{Teams, DeckLine}
 use Rattle.rc_model.specs.Limits.{most_players}
+use Rattle.rc_deck.proofs.EachLemmas.{parts_of_append}
 use Rattle.rc_sheet_model.specs.Naming.{Naming}
 use Rattle.rc_grammar.specs.Keyword.{text_of}
 use Rattle.rc_grammar.specs.Faults.{faults, faults_at, faults_in, rule_of, place_at, count}
@@ -28,7 +29,7 @@ use Rattle.rc_sheet.proofs.Silent.{tree_silent, row_none}
 use Rattle.rc_sheet.proofs.Lands.{never, never_roles}
 use Rattle.rc_sheet.proofs.SetupCounts.{below_lines, is_below, below_lawful, body_below, is_line_rule, line_parts}
 use Rattle.rc_sheet.proofs.Fine.Common.{Given, given_of, IsFine}
-use Rattle.rc_sheet.proofs.GoodParts.{IsGood, GoodAt, AreGood, IsGoodForm, good_form, are_good, all_of_both}
+use Rattle.rc_sheet.proofs.GoodParts.{IsGood, GoodAt, AreGood, IsGoodForm, good_form, are_good}
 use Rattle.rc_sheet.proofs.AllFine.{all_fine}
 use Rattle.rc_sheet.proofs.Whole.{setup_of as setup_tree, game_body, parts_with, IsSheetForm, sheet_only}
 
@@ -359,8 +360,8 @@ whole_keeps Q a b c d e f from to lines rest whole_fits shaped sound keeps =
     let ours = of_lines a b c d e f from to lines rest in
     let others = behind_lines a b c d e f from to lines rest in
     let fine = recursion_from_All (IsFine (given_of tree) (naming_of tree)) (parts_of tree) (all_fine tree shaped sound) in
-    let fine' = all_of_both (IsFine (given_of tree) (naming_of tree)) first (ours ++ others) fine in
-    let fine'' = all_of_both (IsFine (given_of tree) (naming_of tree)) ours others fine'.1 in
+    let fine' = parts_of_append (IsFine (given_of tree) (naming_of tree)) first (ours ++ others) fine in
+    let fine'' = parts_of_append (IsFine (given_of tree) (naming_of tree)) ours others fine'.1 in
     let faultless = faults_of_both (parts_of tree) [] first (ours ++ others) sound in
     let faultless' = faults_of_both (parts_of tree) first ours others faultless.1 in
     setup_form Q tree (naming_of tree) c d e f lines

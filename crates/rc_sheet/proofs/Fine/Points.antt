@@ -12,6 +12,7 @@ use Rattle.rc_model.specs.Deck.{Entry}
 use Rattle.rc_setup.specs.Naming.{DeckNames}
 use Rattle.rc_sheet_model.specs.Sheet.{Sheet}
 use Rattle.rc_model.specs.Clamp.{IsWithinClamp, largest_number}
+use Rattle.rc_deck.proofs.EachLemmas.{append_each}
 use Rattle.rc_sheet_model.specs.WellFormed.{IsEntry}
 use Rattle.rc_setup.specs.Naming.{number_of}
 use Rattle.rc_setup.specs.Reading.{read_values, read_value_list, unclamped, read_points, entry_with, read_entry, read_all_entries, read_entries}
@@ -27,7 +28,6 @@ use Rattle.rc_reading.specs.ReadSheet.{setup_form_at, sheet_at}
 use Rattle.rc_sheet.proofs.Means.{Means, nothing, something, means_so, weaker, behind, either, made_of, anything}
 use Rattle.rc_sheet.proofs.Fine.Lines.{setup_in, setup_keeps}
 use Rattle.rc_sheet.proofs.SheetSetup.{by_setup}
-use Rattle.rc_sheet.proofs.Room.{all_both}
 
 -- a number within the clamp is in range
 unclamped_fits : (found : Option ℤ) → Means (option_and_then unclamped found) IsWithinClamp
@@ -105,7 +105,7 @@ points_are_fine tree shaped sound =
         teams = λ said earlier at create second parts from to all line first is q. q;
         decks = λ said earlier at create second loc tree from to deck line is q. q;
         points = λ said earlier at put second map inner from to entries line is q.
-            all_both ArePoints said.points (entries ∷ []) q
+            append_each ArePoints said.points (entries ∷ []) q
             (means_so _ entries (map_fits (naming_of tree) (length said.points) map inner) is, tt);
       },
       λ parts start. tt,

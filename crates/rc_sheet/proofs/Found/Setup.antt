@@ -9,6 +9,7 @@ use Rattle.rc_model.specs.Literal.{integer}
 use Rattle.rc_model.specs.Tree.{Tree, word, list, Trees, nil, cons}
 use Rattle.rc_sheet_model.specs.Sheet.{Class, game_class, player_class, DeckLine, game, no_item, highest, literal, Sheet}
 use Rattle.rc_model.specs.Limits.{most_players}
+use Rattle.rc_deck.proofs.EachLemmas.{parts_of_append}
 use Rattle.rc_sheet_model.specs.Naming.{Naming, class_of}
 use Rattle.rc_grammar.specs.Keyword.{text_of}
 use Rattle.rc_grammar.specs.Faults.{faults, faults_at, faults_in, atom_faults, is_word, is_within, rule_of, place_at, count, fits}
@@ -35,7 +36,7 @@ use Rattle.rc_sheet.proofs.Fine.Common.{Given, given_of, IsFine}
 use Rattle.rc_sheet.proofs.Finds.{Finds, finds, implies, joins, follows, follows_this, where_true, ensures_so, finds_meaning}
 use Rattle.rc_sheet.proofs.Fine.Names.{passes_test, name_finds, loc_finds}
 use Rattle.rc_sheet.proofs.Found.Faces.{IsFound, no_word, deck_found, entries_found}
-use Rattle.rc_sheet.proofs.GoodParts.{◌▹◌, two_and_more, sized_finds, all_of_both, IsGood, GoodAt, AreGood, IsGoodForm, only_form, list_finds, no_list, are_good}
+use Rattle.rc_sheet.proofs.GoodParts.{◌▹◌, two_and_more, sized_finds, IsGood, GoodAt, AreGood, IsGoodForm, only_form, list_finds, no_list, are_good}
 use Rattle.rc_sheet.proofs.GoodForms.{from_two}
 use Rattle.rc_sheet.proofs.AllFine.{all_fine}
 use Rattle.rc_sheet.proofs.SomePlayers.{some_players}
@@ -440,8 +441,8 @@ whole_found a b c d e f from to lines rest whole_fits shaped sound =
     let ours = of_lines a b c d e f from to lines rest in
     let others = behind_lines a b c d e f from to lines rest in
     let fine = recursion_from_All (IsFine given naming) (parts_of tree) (all_fine tree shaped sound) in
-    let fine' = all_of_both (IsFine given naming) first (ours ++ others) fine in
-    let fine'' = all_of_both (IsFine given naming) ours others fine'.1 in
+    let fine' = parts_of_append (IsFine given naming) first (ours ++ others) fine in
+    let fine'' = parts_of_append (IsFine given naming) ours others fine'.1 in
     let faultless = faults_of_both (parts_of tree) [] first (ours ++ others) sound in
     let faultless' = faults_of_both (parts_of tree) first ours others faultless.1 in
     let turns = in_turn_of_both naming.names.maps [] first (ours ++ others) (maps_in_turn tree shaped sound) in

@@ -4,11 +4,11 @@ use Rattle.std.proofs.Common.{◌≡◌, ℕ, ◌+◌, Bool, true, false, cond, 
 use Rattle.std.specs.Prelude.{codes}
 use Rattle.std.specs.List.{AllZip, zip, range_with_len}
 use Rattle.std.proofs.lemmas.List.{append-nil}
-use Rattle.rc_deck.proofs.Orders.{AllZip-append}
 use Rattle.rc_model.specs.Tree.{Tree, word, list, Trees, nil, cons, count}
 use Rattle.rc_model.specs.Literal.{integer}
 use Rattle.rc_sheet_model.specs.Sheet.{Teams, Sheet, game_class, Who, game}
 use Rattle.rc_model.specs.Limits.{most_players}
+use Rattle.rc_deck.proofs.EachLemmas.{zip_push}
 use Rattle.rc_sheet_model.specs.Rows.{◌▸◌, End, Row, Word, Atom}
 use Rattle.rc_sheet_model.specs.Rows.{Some as Full}
 use Rattle.rc_sheet_model.specs.Naming.{Naming, class_of, Named, Literal, KindOf, loc_class}
@@ -121,16 +121,11 @@ record Stand (naming : Naming) (said : Lines) (players teams decks points : List
   of_decks : AllZip (StandsDeck naming) said.decks decks
   of_points : AllZip (StandsMap naming) (numbered said.points) points
 
--- one more at the end
-one_more : {A B : Type 0} (R : A → B → Type 0) (as' : List A) (bs : List B) (a : A) (b : B) → AllZip R as' bs → R a b
-    → AllZip R (as' ++ a ∷ []) (bs ++ b ∷ [])
-one_more R as' bs a b all here = AllZip-append R as' (a ∷ []) bs (b ∷ []) all (here, tt)
-
 -- the first of a kind
 first_one : {A B : Type 0} (R : A → B → Type 0) (found : Option A) (bs : List B) (a : A) (b : B) → is_none found ≡ true
     → AllZip R (option_to_list found) bs → R a b → AllZip R (a ∷ []) (bs ++ b ∷ [])
 first_one R found bs a b is all here =
-    one_more R [] bs a b (subst (λ as'. AllZip R as' bs) (none_listed found is) all) here
+    zip_push R [] bs a b (subst (λ as'. AllZip R as' bs) (none_listed found is) all) here
 
 -- numbers of a list with one more item
 numbered_from : {A : Type 0} (start : ℕ) (all : List A) (a : A)
@@ -242,7 +237,7 @@ line_rule_means naming said a b c d from to rule.CreateDeck (cons create (cons d
       of_players = stand.of_players;
       of_teams = stand.of_teams;
       of_decks =
-          one_more (StandsDeck naming) said.decks c line _ stand.of_decks
+          zip_push (StandsDeck naming) said.decks c line _ stand.of_decks
           ((told.0, (told.1, (is.0.0, (is.1, tt)))), is.0.1);
       of_points = stand.of_points;
     })))
@@ -260,7 +255,7 @@ line_rule_means naming said a b c d from to rule.PutPoints (cons put (cons point
           subst (λ all. AllZip (StandsMap naming) all
           (d ++ list (cons put (cons points (cons map (cons tree nil)))) from to ∷ []))
           (sym (numbered_more said.points entries))
-          (one_more (StandsMap naming) (numbered said.points) d (length said.points, entries) _ stand.of_points
+          (zip_push (StandsMap naming) (numbered said.points) d (length said.points, entries) _ stand.of_points
           (told.0, (told.1, (is.0, (is.1, tt)))));
     })))
 line_rule_means naming said a b c d from to rule.CreateTeams (cons create (cons teams nil)) stand told =

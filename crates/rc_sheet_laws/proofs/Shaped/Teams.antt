@@ -9,6 +9,7 @@ use Rattle.std.proofs.lemmas.Map.Steps.{le-length_from_below}
 use Rattle.std.proofs.lemmas.List.{length-map}
 use Rattle.rc_model.specs.Literal.{integer}
 use Rattle.rc_model.specs.Tree.{Tree, word, list, Trees, nil, cons, count}
+use Rattle.rc_deck.proofs.EachLemmas.{parts_of_append}
 use Rattle.rc_sheet_model.specs.Sheet.{Teams}
 use Rattle.rc_sheet_model.specs.Rows.{Some as Full}
 use Rattle.rc_sheet_model.specs.Naming.{Literal}
@@ -18,7 +19,6 @@ use Rattle.rc_grammar.specs.Grammar.{front_of, more_of}
 use Rattle.rc_grammar.specs.Faults.{is_within, faults, rule_of, fits}
 use Rattle.rc_sheet_laws.proofs.One.Rows.{row_words, row_word_part}
 use Rattle.rc_sheet.proofs.TeamNumbers.{none_counted}
-use Rattle.rc_sheet.proofs.GoodParts.{all_of_both}
 use Rattle.rc_sheet_laws.proofs.Shaped.Common.{AllShaped, AreShaped, is_plain, form_shaped, row_shaped, more_fit_two, accepted, atom_shaped}
 use Rattle.rc_grammar.specs.declared.fault.SheetKind.TheVariants.{Number}
 use Rattle.rc_grammar.specs.declared.grammar.Symbol.{Symbol}
@@ -168,7 +168,7 @@ teams_shaped_each [] (cons tree trees) stands few = absurd stands
 teams_shaped_each (team ∷ teams) nil stands few = absurd stands
 teams_shaped_each (team ∷ teams) (cons (word bytes from to) trees) stands few = absurd stands.0
 teams_shaped_each (team ∷ teams) (cons (list parts from to) trees) stands few =
-    let both = all_of_both (λ m. m < 8) team (flat_map (λ team. team) teams) few in (
+    let both = parts_of_append (λ m. m < 8) team (flat_map (λ team. team) teams) few in (
       loose_shaped symbol.Team rule.Team parts from to (λ a rest. refl) (λ a rest. lt-ltb 0 (suc (count rest)) (omega arith)) refl
           stands.0.0 (team_shaped team parts stands.0.1 both.0),
       teams_shaped_each teams trees stands.1 both.1,

@@ -4,6 +4,7 @@ use Rattle.std.specs.Prelude.{codes}
 use Rattle.std.specs.List.{AllByRecursion}
 use Rattle.std.proofs.lemmas.Bool.{or_from}
 use Rattle.rc_model.specs.Tree.{Tree, word, list, Trees, nil, cons}
+use Rattle.rc_deck.proofs.EachLemmas.{append_each}
 use Rattle.rc_sheet_model.specs.Sheet.{Sheet}
 use Rattle.rc_sheet_model.specs.Naming.{loc_class, num_class, sheet_naming}
 use Rattle.rc_sheet_model.specs.Naming.{kind_word as kind_bytes}
@@ -20,7 +21,6 @@ use Rattle.rc_faults.specs.SecondParts.{Standing, Part, atom, form, is_binder, w
 use Rattle.rc_faults.specs.SecondNames.{some_of, is_named, attributes_in, values_in, maps_in, mention_of, OwnedMention}
 use Rattle.rc_faults.specs.SecondFaults.{is_player_again, sorts_at, is_unbound, is_unnamed, is_no_player, is_misused, is_other_side, is_misplaced, is_twice, is_unknown, is_wrong_kind, is_too_deep}
 use Rattle.rc_sheet.proofs.GoodParts.{Each}
-use Rattle.rc_sheet.proofs.Room.{all_both}
 
 -- a place, with what is around it
 abbrev pub standing : Symbol → Around → Role → Trees → List (List ℕ) → Standing
@@ -91,7 +91,7 @@ module _ (sheet : Sheet) (all : List Part) where
   AllSound parts = AllByRecursion IsSound parts
 
   pub all_join : (xs ys : List Part) → AllSound xs → AllSound ys → AllSound (xs ++ ys)
-  all_join xs ys first second = all_both IsSound xs ys first second
+  all_join xs ys first second = append_each IsSound xs ys first second
 
   -- nothing is wanted of a part by its role
   pub record IsPlain (at : Standing) : Type 0 where

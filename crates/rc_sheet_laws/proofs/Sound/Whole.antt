@@ -13,6 +13,7 @@ use Rattle.rc_sheet_model.specs.Sheet.{Sheet}
 use Rattle.rc_sheet_model.specs.Naming.{loc_class, num_class, sheet_naming}
 use Rattle.rc_sheet_model.specs.Naming.{kind_word as kind_bytes}
 use Rattle.rc_model.specs.Limits.{most_cards, most_locations, most_numbers, most_attrs, most_values, most_maps, most_stages, most_sites}
+use Rattle.rc_deck.proofs.EachLemmas.{parts_of_append}
 use Rattle.rc_sheet_model.specs.WellFormed.{is_among}
 use Rattle.rc_grammar.specs.declared.grammar.Symbol.{Symbol}
 use Rattle.rc_grammar.specs.declared.grammar.Symbol.TheVariants as symbol
@@ -30,7 +31,6 @@ use Rattle.rc_sheet.proofs.Among.{Among, among_left}
 use Rattle.rc_sheet.proofs.ReadOff.Names.{class_same}
 use Rattle.rc_sheet.proofs.Faultless.{IsFaultless}
 use Rattle.rc_sheet.proofs.FewNames.{no_more_different}
-use Rattle.rc_sheet.proofs.GoodParts.{all_of_both}
 use Rattle.rc_sheet.proofs.Fine.Names.{same_either_way}
 use Rattle.rc_sheet_laws.proofs.One.Names.{Differ}
 use Rattle.rc_sheet_laws.proofs.Sound.Parts.{IsLocSaid, IsNumSaid, IsSound, AllSound}
@@ -373,7 +373,7 @@ module _ (sheet : Sheet) (all : List Part) (differ : Differ sheet.names) (togeth
       (λ before later part is.
       let each = subst (AllSound sheet all) is sound in
       let here = of_one (IsSound sheet all) before part later each in
-      let earlier = (all_of_both (IsSound sheet all) before (part ∷ later) each).0 in
+      let earlier = (parts_of_append (IsSound sheet all) before (part ∷ later) each).0 in
       record {
         once = once_again before later part is here;
         known = all_known before later part is here;

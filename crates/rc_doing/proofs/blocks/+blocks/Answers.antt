@@ -2,6 +2,7 @@ use Rattle.std.proofs.Common.{map, ◌+◌, ◌*◌, ◌<◌, ◌++◌, ◌∷�
 use Rattle.std.specs.Prelude.{fold}
 use Rattle.std.proofs.lemmas.Grind.{common_steps}
 use Rattle.rc_model.specs.Numbers.{below}
+use Rattle.rc_deck.proofs.EachLemmas.{on_ok}
 use Rattle.rc_sheet_model.specs.Sheet.{Sheet, for_each}
 use Rattle.rc_sheet_model.specs.WellFormed.{AreEffects}
 use Rattle.rc_play_model.specs.Value.{player_bound, loc_place}
@@ -20,7 +21,7 @@ use Rattle.rc_state.specs.Under.{AreEffectsUnder}
 use Rattle.rc_doing.specs.Everyone.{gather_for}
 use Rattle.rc_doing.proofs.EffectSteps.{one_player, no_player, once_more}
 use Rattle.rc_doing.proofs.EveryoneLemmas.{gather_each, set_each}
-use Rattle.rc_board.proofs.KeepsLemmas.{keeps_then, on_ok}
+use Rattle.rc_board.proofs.KeepsLemmas.{keeps_then}
 use Rattle.rc_doing.proofs.ShuffleLemmas.{shuffled_then}
 use Rattle.rc_doing.proofs.blocks.+blocks.Goals as goal
 

@@ -1,11 +1,11 @@
 use Rattle.std.proofs.Common.{ap, ◌∙◌}
+use Rattle.rc_deck.proofs.EachLemmas.{on_ok}
 use Rattle.rc_play_model.specs.Menu.{effects_of}
 use Rattle.rc_play_model.specs.Effects.{does}
 use Rattle.rc_ast.specs.Expressions.{domain_seen}
 use Rattle.rc_ast.specs.Items.{alt_seen}
 use Rattle.rc_state.specs.Point.{point_of}
 use Rattle.rc_state.specs.Context.{scene_in}
-use Rattle.rc_board.proofs.KeepsLemmas.{on_ok}
 use Rattle.rc_state.proofs.MemberLemmas.{bare_any}
 use Rattle.rc_doing.proofs.items.+alternatives.Goals as goal
 

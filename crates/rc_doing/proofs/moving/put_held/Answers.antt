@@ -1,11 +1,11 @@
 use Rattle.std.proofs.Common.{◌<◌, length, sym, ap, ◌∙◌, subst}
 use Rattle.std.specs.Prelude.{All}
+use Rattle.rc_deck.proofs.EachLemmas.{on_ok}
 use Rattle.rc_ast.specs.Effects.{end_seen}
 use Rattle.rc_table.specs.Laid.{relaid}
 use Rattle.rc_table.specs.Runs.{put_each}
 use Rattle.rc_value.specs.Cards.{values_seen}
 use Rattle.rc_state.proofs.HeldLemmas.{held_go, held_cards}
-use Rattle.rc_board.proofs.KeepsLemmas.{on_ok}
 use Rattle.rc_doing.proofs.moving.put_held.Goals as goal
 
 pub put_ids-requires-clause-cards : goal.put_ids-requires-clause-cards

@@ -1,11 +1,11 @@
 use Rattle.std.proofs.Common.{ap, ◌∙◌}
+use Rattle.rc_deck.proofs.EachLemmas.{on_ok}
 use Rattle.rc_play_model.specs.Value.{who_value, coll_value}
 use Rattle.rc_ast.specs.Names.{who_seen}
 use Rattle.rc_ast.specs.Expressions.{coll_seen}
 use Rattle.rc_table.specs.Laid.{Laid}
 use Rattle.rc_value.specs.Cards.{values_seen}
 use Rattle.rc_state.specs.Context.{scene_in}
-use Rattle.rc_board.proofs.KeepsLemmas.{on_ok}
 use Rattle.rc_state.proofs.PeekLemmas.{shown_leads}
 use Rattle.rc_doing.proofs.peeking.peek.Goals as goal
 

@@ -1,11 +1,11 @@
 use Rattle.std.proofs.Common.{sym, ap, ◌∙◌}
+use Rattle.rc_deck.proofs.EachLemmas.{on_ok}
 use Rattle.rc_play_model.specs.Table.{loc_of, marks_of, set_marks}
 use Rattle.rc_play_model.specs.Effects.{is_named, joined, show_card}
 use Rattle.rc_table.specs.Laid.{Laid, relaid}
 use Rattle.rc_value.specs.declared.cards.Card.{Card}
 use Rattle.rc_value.specs.Cards.{value_seen}
 use Rattle.rc_board.specs.Undo.{Kept}
-use Rattle.rc_board.proofs.KeepsLemmas.{on_ok}
 use Rattle.rc_doing.proofs.peeking.show.Goals as goal
 
 pub returns-in-Held-clause-leads : goal.returns-in-Held-clause-leads

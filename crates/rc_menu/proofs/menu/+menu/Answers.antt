@@ -1,6 +1,7 @@
 use Rattle.std.proofs.Common.{◌≡◌, ℕ, List, ◌<◌, ◌++◌, ◌∷◌, [], cond, length, map, take, arith, ap, sym, ◌∙◌}
 use Rattle.std.proofs.lemmas.List.{length-map}
 use Rattle.rc_model.specs.Numbers.{below}
+use Rattle.rc_deck.proofs.RangeLemmas.{below_length}
 use Rattle.rc_sheet_model.specs.Sheet.{any_alt, each_player, each_card, each_group}
 use Rattle.rc_play_model.specs.Scene.{CardValue}
 use Rattle.rc_play_model.specs.Value.{Bind as PureBind, card_bound, player_bound, group_bound, coll_value, groups_by}
@@ -13,7 +14,7 @@ use Rattle.rc_value.specs.Groups.{with_value}
 use Rattle.rc_rules.specs.Menu.{item_seen, menu_seen}
 use Rattle.rc_menu.specs.Menu.{extended}
 use Rattle.rc_menu.specs.Asks.{told_of}
-use Rattle.rc_rules.proofs.Elements.{map_here, below_length}
+use Rattle.rc_rules.proofs.Elements.{map_here}
 use Rattle.rc_value.proofs.Steps.{players_are, player_here}
 use Rattle.rc_menu.proofs.Offers.{offered_do, offered_if, offered, offered_all, offered_full, counted_each, alike_each, alike_none, put_nothing, cut_few, bound_count}
 use Rattle.rc_menu.proofs.menu.+menu.Goals as goal

@@ -1,8 +1,8 @@
 use Rattle.std.proofs.Common.{◌∷◌, [], get_or, refl, arith, ◌∙◌}
 use Rattle.std.proofs.lemmas.List.{length-map}
 use Rattle.rc_model.specs.Numbers.{below}
+use Rattle.rc_deck.proofs.RangeLemmas.{below_length}
 use Rattle.rc_rules.specs.Menu.{item_seen, menu_seen}
-use Rattle.rc_rules.proofs.Elements.{below_length}
 use Rattle.rc_menu.specs.Menu.{extended}
 use Rattle.rc_value.proofs.Lists.{here_is}
 use Rattle.rc_menu.proofs.Offers.{offered, offered_all, offered_full}

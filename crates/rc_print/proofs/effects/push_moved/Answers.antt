@@ -1,10 +1,10 @@
 use Rattle.rc_model.specs.Tree.{Tree}
+use Rattle.rc_deck.proofs.EachLemmas.{on_ok}
 use Rattle.rc_sheet_model.specs.Printing.{coll_form, spot_form}
 use Rattle.rc_ast.specs.Names.{loc_seen}
 use Rattle.rc_ast.specs.Expressions.{coll_seen}
 use Rattle.rc_ast.specs.Effects.{end_seen}
 use Rattle.rc_print.specs.Printing.{naming_seen, bound_seen}
-use Rattle.rc_print.proofs.Added.{on_ok}
 use Rattle.rc_print.proofs.Rows.{opened, with_part, ended}
 use Rattle.rc_print.proofs.effects.push_moved.Goals as goal
 

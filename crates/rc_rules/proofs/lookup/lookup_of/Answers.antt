@@ -1,10 +1,10 @@
 use Rattle.std.proofs.Common.{◌≡◌, length, map, ap, sym, ◌∙◌, arith}
 use Rattle.std.proofs.lemmas.List.{length-map}
 use Rattle.rc_model.specs.Numbers.{below}
+use Rattle.rc_deck.proofs.RangeLemmas.{below_length}
 use Rattle.rc_rules.specs.Lookup.{value_row}
 use Rattle.rc_ast.specs.Sheet.{sheet_seen}
 use Rattle.rc_rules.proofs.ClassLemmas.{class_count}
-use Rattle.rc_rules.proofs.Elements.{below_length}
 use Rattle.rc_rules.proofs.lookup.lookup_of.Goals as goal
 
 pub loc_ranges-requires : goal.loc_ranges-requires

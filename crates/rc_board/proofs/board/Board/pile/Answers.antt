@@ -1,8 +1,8 @@
 use Rattle.std.proofs.Common.{◌≤◌, length, slice_get, sym, ap, ◌∙◌, subst}
+use Rattle.rc_deck.proofs.EachLemmas.{on_ok}
 use Rattle.rc_play_model.specs.Shape.{Shape, holds_references}
 use Rattle.rc_play_model.specs.Table.{list_at}
 use Rattle.rc_table.specs.Laid.{Laid, relaid}
-use Rattle.rc_board.proofs.KeepsLemmas.{on_ok}
 use Rattle.rc_board.proofs.PiledLemmas.{references_stay, cards_go}
 use Rattle.rc_board.proofs.board.Board.pile.Goals as goal
 

@@ -1,6 +1,6 @@
 use Rattle.std.proofs.Common.{◌≡◌, ◌≤◌, [], ◌∷◌, ◌++◌, length, map, drop, length-drop, arith, ap, ◌∙◌}
+use Rattle.rc_deck.proofs.RangeLemmas.{below_length}
 use Rattle.rc_claims.specs.Claims.{fresh}
-use Rattle.rc_claims.proofs.ClaimLemmas.{length_below}
 use Rattle.rc_claims.proofs.CutLemmas.{one_cut, last_cut}
 use Rattle.rc_claims.proofs.claims.Claims.cut.Goals as goal
 
@@ -10,7 +10,7 @@ loop-init c =
     record {
       own = c.requires.own;
       none = c.requires.all.1;
-      left = omega (arith, ap length holders, length_below c.args.passes);
+      left = omega (arith, ap length holders, below_length c.args.passes);
       all = ap (λ l. l ++ map (fresh c.args.self.now.table) c.args.whole.holders) c.new-all.ensures.items ∙ ap (map (fresh c.args.self.now.table)) holders;
     }
 

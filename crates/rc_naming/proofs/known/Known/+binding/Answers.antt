@@ -1,8 +1,8 @@
 use Rattle.std.proofs.Common.{◌∙◌, ap}
+use Rattle.rc_deck.proofs.EachLemmas.{on_ok}
 use Rattle.rc_sheet_model.specs.FormMentions.{all_var_words, var_words}
 use Rattle.rc_naming.specs.Known.{with_all, variables}
 use Rattle.rc_naming.proofs.Steps.{step, variables-split}
-use Rattle.rc_naming.proofs.Stored.{on_ok}
 use Rattle.rc_naming.proofs.Lengths.{bound_short}
 use Rattle.rc_naming.proofs.known.Known.+binding.Goals as goal
 

@@ -1,9 +1,9 @@
 use Rattle.std.proofs.Common.{◌∙◌, ap, sym, arith}
 use Rattle.rc_form.specs.Form.{trees_of, packed}
 use Rattle.rc_model.specs.Tree.{cons, nil}
+use Rattle.rc_deck.proofs.EachLemmas.{on_ok}
 use Rattle.rc_naming.specs.Known.{with_all, in_groups, in_branches}
 use Rattle.rc_naming.proofs.Steps.{step, groups-split, branches-split}
-use Rattle.rc_naming.proofs.Stored.{on_ok}
 use Rattle.rc_naming.proofs.Groups.{group_other, group_atom, group_two}
 use Rattle.rc_naming.proofs.known.Known.+groups.Goals as goal
 

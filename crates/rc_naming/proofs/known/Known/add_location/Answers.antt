@@ -1,8 +1,8 @@
 use Rattle.std.proofs.Common.{◌≡◌, ◌∙◌, ap, sym, map, ◌∷◌, [], option_map, option_to_list}
 use Rattle.std.specs.Map.{keys_of}
+use Rattle.rc_deck.proofs.EachLemmas.{on_ok}
 use Rattle.rc_naming.specs.Known.{with_all, with_mentions, locs_alone, loc_seen, num_seen}
 use Rattle.rc_naming.proofs.Firsts.{seen_added}
-use Rattle.rc_naming.proofs.Stored.{on_ok}
 use Rattle.rc_naming.proofs.known.Known.add_location.Goals as goal
 
 pub returns-in-Some : goal.returns-in-Some

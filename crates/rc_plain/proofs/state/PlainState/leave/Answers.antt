@@ -1,4 +1,5 @@
 use Rattle.std.proofs.Common.{ap, sym, ◌∙◌, subst, refl}
+use Rattle.rc_deck.proofs.EachLemmas.{past_end}
 use Rattle.rc_sheet_model.specs.Lists.{item_list}
 use Rattle.rc_sheet_model.specs.WellFormed.{owner_count}
 use Rattle.rc_play_model.specs.Step.{with_frames, passed}
@@ -6,7 +7,7 @@ use Rattle.rc_play_model.specs.Path.{stage_in, body_at}
 use Rattle.rc_rules.specs.Control.{frames_seen}
 use Rattle.rc_plain.specs.Paths.{Leaves}
 use Rattle.rc_plain.specs.State.{plain_of}
-use Rattle.rc_plain.proofs.PathLemmas.{not_round, past_end}
+use Rattle.rc_plain.proofs.PathLemmas.{not_round}
 use Rattle.rc_plain.proofs.StepCases.{end_leads, turn_leads}
 use Rattle.rc_plain.proofs.PlayLemmas.{goes_on, left_stage, still}
 use Rattle.rc_plain.proofs.KeptLemmas.{not_offered}
