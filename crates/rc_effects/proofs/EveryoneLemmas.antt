@@ -1,17 +1,13 @@
 -- Setting a number of each player to one value is what the effect does for one player after the other.
-use Rattle.std.proofs.Common.{◌≡◌, ℕ, ℤ, List, [], ◌∷◌, ◌++◌, length, map, slice_get, refl, ap, ◌∙◌}
+use Rattle.std.proofs.Common.{◌≡◌, ℕ, ℤ, List, [], ◌∷◌, ◌++◌, length, map, refl, ap, ◌∙◌}
 use Rattle.std.specs.Prelude.{fold}
 use Rattle.rc_sheet_model.specs.Sheet.{Effects, effect, no_effect}
 use Rattle.rc_play_model.specs.About.{About}
 use Rattle.rc_play_model.specs.Scene.{CardValue, Vars}
-use Rattle.rc_play_model.specs.Value.{Bind, player_bound, player_of}
+use Rattle.rc_play_model.specs.Value.{Bind, player_bound}
 use Rattle.rc_play_model.specs.Effects.{Dealing, Point, with_table, if_some, change, does}
+use Rattle.rc_play_model.proofs.OnePlace.{innermost_player}
 use Rattle.rc_effects.specs.Everyone.{setting, number_of, set_for}
-
--- the innermost variable
-innermost : (vars : Vars) (player : ℕ) → player_of (slice_get (vars ++ player_bound player ∷ []) (length vars)) ≡ player
-innermost [] player = refl
-innermost (bind ∷ vars) player = innermost vars player
 
 module _ (about : About) (dealing : Dealing ℕ) (vars : Vars) (name : ℕ) (value : ℤ) where
   abbrev by_effect : Effects → Point ℕ → Bind CardValue → Point ℕ
@@ -22,7 +18,7 @@ module _ (about : About) (dealing : Dealing ℕ) (vars : Vars) (name : ℕ) (val
 
   for_one : (player : ℕ) (now : Point ℕ) → by_effect one now (player_bound player) ≡ with_table now (set_for about.sheet name value now.table (player_bound player))
   for_one player now =
-      ap (λ n. with_table now (if_some (change (λ old new. new) value) (number_of about.sheet name n) now.table)) (innermost vars player)
+      ap (λ n. with_table now (if_some (change (λ old new. new) value) (number_of about.sheet name n) now.table)) (innermost_player vars player)
 
   for_these : (players : List ℕ) (now : Point ℕ) →
       fold (by_effect one) now (map (λ n. player_bound n) players)

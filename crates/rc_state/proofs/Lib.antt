@@ -10,3 +10,4 @@ pub mod ScoreLemmas
 pub mod ShownLemmas
 pub mod PeekLemmas
 pub mod HeldLemmas
+pub mod EffectSteps

@@ -19,7 +19,8 @@ use Rattle.rc_rules.specs.Control.{frames_seen}
 use Rattle.rc_state.specs.Point.{point_of}
 use Rattle.rc_state.specs.Under.{AreEffectsUnder}
 use Rattle.rc_doing.specs.Everyone.{gather_for}
-use Rattle.rc_doing.proofs.EffectSteps.{one_player, no_player, once_more}
+use Rattle.rc_state.proofs.EffectSteps.{one_player, no_player}
+use Rattle.rc_doing.proofs.EffectSteps.{once_more}
 use Rattle.rc_doing.proofs.EveryoneLemmas.{gather_each, set_each}
 use Rattle.rc_board.proofs.KeepsLemmas.{keeps_then}
 use Rattle.rc_doing.proofs.ShuffleLemmas.{shuffled_then}

@@ -4,7 +4,7 @@ use Rattle.rc_play_model.specs.Value.{player_bound}
 use Rattle.rc_table.specs.Laid.{Laid, relaid}
 use Rattle.rc_board.proofs.KeepsLemmas.{keeps_then}
 use Rattle.rc_doing.specs.Everyone.{gather_for}
-use Rattle.rc_doing.proofs.EffectSteps.{one_player, no_player}
+use Rattle.rc_state.proofs.EffectSteps.{one_player, no_player}
 use Rattle.rc_doing.proofs.everyone.gather_on.Goals as goal
 
 pub returns-in-Err-clause-keeps : goal.returns-in-Err-clause-keeps

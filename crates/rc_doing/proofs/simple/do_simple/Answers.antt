@@ -4,7 +4,7 @@ use Rattle.rc_table.specs.Laid.{Laid}
 use Rattle.rc_play_model.specs.Effects.{does_one}
 use Rattle.rc_ast.specs.Effects.{effect_seen}
 use Rattle.rc_state.specs.Point.{point_of}
-use Rattle.rc_doing.proofs.EffectSteps.{led}
+use Rattle.rc_state.proofs.EffectSteps.{led}
 use Rattle.rc_doing.proofs.simple.do_simple.Goals as goal
 
 pub returns-in-Move-clause-does : goal.returns-in-Move-clause-does

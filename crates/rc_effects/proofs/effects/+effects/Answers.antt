@@ -12,7 +12,8 @@ use Rattle.rc_state.specs.Point.{point_of}
 use Rattle.rc_state.specs.Under.{IsEffectUnder, AreEffectsUnder}
 use Rattle.rc_state.proofs.Rows.{is_if, is_repeat, is_each, effect_under}
 use Rattle.rc_effects.proofs.EveryoneLemmas.{set_each}
-use Rattle.rc_effects.proofs.Steps.{same_effect, led, one_player, no_player}
+use Rattle.rc_state.proofs.EffectSteps.{led, one_player, no_player}
+use Rattle.rc_effects.proofs.Steps.{same_effect}
 use Rattle.rc_effects.proofs.effects.+effects.Goals as goal
 
 pub do_effect-returns-in-Move-clause-does : goal.do_effect-returns-in-Move-clause-does

@@ -2,7 +2,7 @@ use Rattle.std.proofs.Common.{sym, ap, ◌∙◌, arith}
 use Rattle.rc_sheet_model.specs.Sheet.{Sheet}
 use Rattle.rc_table.specs.Laid.{Laid, relaid}
 use Rattle.rc_effects.specs.Everyone.{set_for}
-use Rattle.rc_effects.proofs.Steps.{one_player, no_player}
+use Rattle.rc_state.proofs.EffectSteps.{one_player, no_player}
 use Rattle.rc_effects.proofs.everyone.set_all.Goals as goal
 
 pub loop-player-preserved : goal.loop-player-preserved
