@@ -12,15 +12,11 @@ use Rattle.rc_play_model.specs.Shape.{team_at}
 use Rattle.rc_play_model.specs.Table.{Table}
 use Rattle.rc_play_model.specs.Value.{Bind, player_bound, player_of, who_value, loc_place, cards_there, cut}
 use Rattle.rc_play_model.specs.Effects.{Dealing, Point, scene_now, with_table, if_some, change, does}
+use Rattle.rc_play_model.proofs.OnePlace.{innermost_player}
 use Rattle.rc_board.specs.Piled.{topped, piled}
 use Rattle.rc_doing.specs.Everyone.{setting, number_of, set_for, gathering, IsApart, location_of, gather_for}
 
 -- NUMBERS
-
--- the innermost variable
-innermost : (vars : Vars) (player : ℕ) → player_of (slice_get (vars ++ player_bound player ∷ []) (length vars)) ≡ player
-innermost [] player = refl
-innermost (bind ∷ vars) player = innermost vars player
 
 module _ (about : About) (dealing : Dealing ℕ) (vars : Vars) (name : ℕ) (value : ℤ) where
   abbrev by_effect : Effects → Point ℕ → Bind CardValue → Point ℕ
@@ -31,7 +27,7 @@ module _ (about : About) (dealing : Dealing ℕ) (vars : Vars) (name : ℕ) (val
 
   for_one : (player : ℕ) (now : Point ℕ) → by_effect one now (player_bound player) ≡ with_table now (set_for about.sheet name value now.table (player_bound player))
   for_one player now =
-      ap (λ n. with_table now (if_some (change (λ old new. new) value) (number_of about.sheet name n) now.table)) (innermost vars player)
+      ap (λ n. with_table now (if_some (change (λ old new. new) value) (number_of about.sheet name n) now.table)) (innermost_player vars player)
 
   for_these : (players : List ℕ) (now : Point ℕ) →
       fold (by_effect one) now (map (λ n. player_bound n) players)
@@ -91,7 +87,7 @@ module _ (about : About) (dealing : Dealing ℕ) (vars : Vars) (from to : Loc) (
   from_place now player =
       ap (λ who. place_among about.sheet (class_of who) (map (λ (l : LocName). l.class) about.sheet.locs) from.name
       (who_value (scene_now about now).known (vars ++ player_bound player ∷ []) who)) of
-      ∙ ap (place_among about.sheet player_class (map (λ (l : LocName). l.class) about.sheet.locs) from.name) (innermost vars player)
+      ∙ ap (place_among about.sheet player_class (map (λ (l : LocName). l.class) about.sheet.locs) from.name) (innermost_player vars player)
 
   cards_are : (place loc : Option ℕ) (now : Point ℕ) →
       if_some (λ at table. topped about.shape at table (cut (cards_there (scene_now about now) loc))) place now.table

@@ -30,12 +30,13 @@ use Rattle.rc_play_model.proofs.NextLemmas.{pick_taken}
 use Rattle.rc_play_model.proofs.PlacedLemmas.{IsPlaced, first_placed}
 use Rattle.rc_play_model.proofs.PlayLemmas.{play_ends}
 use Rattle.rc_rules.specs.Machine.{menu_here}
+use Rattle.rc_rules.proofs.MenuLemmas.{menu_there}
 use Rattle.rc_redraw.specs.Need.{Need}
 use Rattle.rc_match.specs.Lane.{Phase, ready, spent, Lane, begun, pick_here, noted, next_stop, completed, lane_at, stepped}
 use Rattle.rc_match.specs.Way.{HasNeed, IsOnWay}
 use Rattle.rc_match.specs.Sound.{Choices, AreItems, chooser_by, play_by, match_by, GoesWith, IsSoundBy}
 use Rattle.rc_match.specs.Asks.{decisions_in}
-use Rattle.rc_match.proofs.WayLemmas.{lane_on, menu_there, noted_heads, way_spent, decision_there, leads_next}
+use Rattle.rc_match.proofs.WayLemmas.{lane_on, noted_heads, way_spent, decision_there, leads_next}
 
 -- one pick more of a front
 taken_more : (xs ys : List Pick) (x : Pick) → take (length ys) xs ≡ ys → slice_get xs (length ys) ≡ Some x → take (length (ys ++ x ∷ [])) xs ≡ ys ++ x ∷ []

@@ -1,24 +1,24 @@
 -- Machines at the start, at a site, and at a decision.
-use Rattle.std.proofs.Common.{◌≡◌, ℕ, zero, suc, ◌≤◌, ◌<◌, Bool, true, false, List, [], ◌∷◌, ◌++◌, map, length, replicate, ◌⊎◌, inl, inr, Option, Some, None, refl, sym, ap, ◌∙◌, subst, append-nil, arith}
-use Rattle.std.specs.Prelude.{unwrap_or}
-use Rattle.std.specs.List.{AllByRecursion, AllZip}
+use Rattle.std.proofs.Common.{◌≡◌, ℕ, ◌≤◌, ◌<◌, Bool, true, false, List, [], ◌∷◌, ◌++◌, length, replicate, ◌⊎◌, inl, inr, Option, Some, None, refl, sym, ap, ◌∙◌, subst, append-nil, arith}
+use Rattle.std.specs.List.{AllZip}
 use Rattle.std.proofs.lemmas.List.Elements.{All-from_recursion}
 use Rattle.rc_deck.proofs.EachLemmas.{past_end}
-use Rattle.rc_sheet_model.specs.Sheet.{Alt, SheetItem, choice, Sheet}
+use Rattle.rc_sheet_model.specs.Sheet.{Alt, SheetItem, choice}
 use Rattle.rc_sheet_model.specs.Lists.{item_list}
-use Rattle.rc_play_model.specs.Control.{Frame, Control}
+use Rattle.rc_play_model.specs.Control.{Control}
 use Rattle.rc_play_model.specs.Table.{Table, opening}
 use Rattle.rc_play_model.specs.About.{About, scene_at}
 use Rattle.rc_play_model.specs.Menu.{alts_at, menu_from}
 use Rattle.rc_sheet_model.specs.WellFormed.{IsWellFormed}
-use Rattle.rc_play_model.specs.Step.{Stage, Part, todo, round, turn, todos, Stop, decide, is_done, is_limit, start}
+use Rattle.rc_play_model.specs.Step.{Part, todo, round, turn, todos, Stop, decide, is_done, is_limit, start}
 use Rattle.rc_play_model.specs.Path.{Path}
 use Rattle.rc_play_model.specs.Decision.{left_at}
 use Rattle.rc_play_model.specs.Fits.{around, HasFrames, IsFrameOf, FitsSite, IsDecision, IsAtStop}
 use Rattle.rc_rules.specs.Machine.{StandsWhereItStops}
 use Rattle.rc_play_model.proofs.PathLemmas.{left-item, left-round, turn_left, end_left}
-use Rattle.rc_play_model.proofs.FrameLemmas.{start_frames}
+use Rattle.rc_play_model.proofs.FrameLemmas.{start_frames, numbers_same}
 use Rattle.rc_play_model.proofs.SiteLemmas.{alts_at_found}
+use Rattle.rc_play_model.proofs.ControlLemmas.{zeros}
 use Rattle.rc_plain.specs.Paths.{ArePlaces, IsPath, item_at}
 use Rattle.rc_plain.specs.Plain.{Plain, config_of, IsInPlay}
 use Rattle.rc_plain.proofs.PathLemmas.{all_but_last}
@@ -39,28 +39,16 @@ starts about =
     ap (λ left. record { left = left; table = opening about.shape; control = record { site = None; frames = []; turn = 0; made = replicate about.sheet.players 0 } })
     (append-nil (todos (item_list about.sheet.items)))
 
-zeros : (n : ℕ) → AllByRecursion (λ m. m ≤ 0) (replicate n 0)
-zeros zero = tt
-zeros (suc n) = (omega arith, zeros n)
-
 pub start_plays : (about : About) → IsInPlay (at_start about)
 start_plays about =
     record {
       stands = record { places = tt; at_stage = λ e. absurd (cc) };
       frames = subst HasFrames (sym (starts about)) (start_frames about);
       turn = omega arith;
-      counts = All-from_recursion (λ m. m ≤ 0) (replicate about.sheet.players 0) (zeros about.sheet.players);
+      counts = All-from_recursion (λ m. m ≤ 0) (replicate about.sheet.players 0) (zeros about.sheet.players 0);
     }
 
 -- AT A SITE
-
-numbers_same : (sheet : Sheet) (stages : List Stage) (frames : List Frame) → AllZip (IsFrameOf sheet) stages frames →
-    map (λ (f : Frame). f.stage) frames ≡ map (λ (s : Stage). s.number) stages
-numbers_same sheet [] [] fit = refl
-numbers_same sheet [] (frame ∷ frames) fit = absurd fit
-numbers_same sheet (s ∷ stages) [] fit = absurd fit
-numbers_same sheet (s ∷ stages) (frame ∷ frames) fit =
-    ap (λ n. n ∷ map (λ (f : Frame). f.stage) frames) (fit.0).stage ∙ ap (λ rest. s.number ∷ rest) (numbers_same sheet stages frames fit.1)
 
 pub site_plays : (m : Plain) (site : ℕ) → IsPath m.about.sheet m.path → FitsSite m.about site m.control → left_at m.about.sheet site ≡ (config_of m).left →
     m.control.turn ≤ m.about.turns → IsInPlay m
@@ -152,11 +140,6 @@ stands_there m is formed (decide seat site) there =
 stands_there m is formed is_done there = tt
 stands_there m is formed is_limit there = tt
 
--- a menu that has an item is one of alternatives
-pub some_alts : (about : About) (table : Table) (frames : List Frame) (alts : List Alt) → 0 < length (menu_from (scene_at about table frames) alts) → 0 < length alts
-some_alts about table frames [] some = some
-some_alts about table frames (alt ∷ alts) some = omega arith
-
 -- a machine of these parts at the start
 pub start_ready : (about : About) (path : Path) (table : Table) (control : Control) → path ≡ (at_start about).path → table ≡ (at_start about).table →
     control ≡ (at_start about).control →
@@ -168,7 +151,3 @@ start_ready about path table control path_is table_is control_is =
     ∙ ap (λ (t : Table). record { about = about; path = path; table = t; control = (at_start about).control }) (sym table_is)
     ∙ ap (λ (c : Control). record { about = about; path = path; table = table; control = c }) (sym control_is) in
     (subst IsInPlay same (start_plays about), sym (ap config_of same) ∙ starts about)
-
--- the site of a control is one
-pub same_site : (o : Option ℕ) (site other : ℕ) → o ≡ Some site → o ≡ Some other → site ≡ other
-same_site o site other is is' = ap (λ p. unwrap_or p 0) (sym is ∙ is')

@@ -1,8 +1,6 @@
 -- Machines stay in play.
-use Rattle.std.proofs.Common.{◌≡◌, ℕ, ◌+◌, ◌≤◌, ◌<◌, true, false, List, [], ◌∷◌, length, All, slice_set, slice_index, zero, suc, Some, sym, ap, subst, true≢false, arith}
-use Rattle.std.specs.List.{AllByRecursion}
+use Rattle.std.proofs.Common.{◌≡◌, ℕ, ◌+◌, ◌≤◌, ◌<◌, true, false, [], length, All, Some, sym, ap, subst, true≢false, arith}
 use Rattle.std.proofs.lemmas.List.{length-map}
-use Rattle.std.proofs.lemmas.List.Elements.{All-from_recursion, recursion_from_All}
 use Rattle.rc_sheet_model.specs.Sheet.{SheetItem}
 use Rattle.rc_sheet_model.specs.Lists.{item_list}
 use Rattle.rc_sheet_model.specs.WellFormed.{IsWellFormed}
@@ -79,27 +77,6 @@ module _ (m : Plain) (play : IsInPlay m) where
 
   pub few_places : (i : SheetItem) → IsWellFormed m.about.sheet → item_at m.about.sheet m.path ≡ Some i → length m.path.outer < 64
   few_places i formed is = let shallow = shallow_path m.about.sheet m.path i formed is in omega (arith, shallow)
-
--- counts of decisions where one turn more is counted
-weaker : (turn : ℕ) (made : List ℕ) → AllByRecursion (λ n. n ≤ turn) made → AllByRecursion (λ n. n ≤ turn + 1) made
-weaker turn [] all = tt
-weaker turn (n ∷ made) all = let le = all.0 in (omega (arith, le), weaker turn made all.1)
-
-pub one_turn_counts : (turn : ℕ) (made : List ℕ) → All (λ n. n ≤ turn) made → All (λ n. n ≤ turn + 1) made
-one_turn_counts turn made all =
-    All-from_recursion (λ n. n ≤ turn + 1) made (weaker turn made (recursion_from_All (λ n. n ≤ turn) made all))
-
--- and where one decision more is counted besides
-one_more_of : (turn seat : ℕ) (made : List ℕ) → AllByRecursion (λ n. n ≤ turn) made →
-    AllByRecursion (λ n. n ≤ turn + 1) (slice_set made seat (slice_index made seat + 1))
-one_more_of turn seat [] all = tt
-one_more_of turn zero (n ∷ made) all = let le = all.0 in (omega (arith, le), weaker turn made all.1)
-one_more_of turn (suc seat) (n ∷ made) all = let le = all.0 in (omega (arith, le), one_more_of turn seat made all.1)
-
-pub one_decision_counts : (turn seat : ℕ) (made : List ℕ) → All (λ n. n ≤ turn) made →
-    All (λ n. n ≤ turn + 1) (slice_set made seat (slice_index made seat + 1))
-one_decision_counts turn seat made all =
-    All-from_recursion (λ n. n ≤ turn + 1) _ (one_more_of turn seat made (recursion_from_All (λ n. n ≤ turn) made all))
 
 -- a dealing that leaves all as it is
 abbrev pub still : Dealing ℕ

@@ -1,5 +1,5 @@
 -- A card of a sound table stands in one place.
-use Rattle.std.proofs.Common.{◌≡◌, ℕ, zero, suc, ◌+◌, ◌<◌, ◌≤◌, false, List, [], ◌∷◌, length, get_or, slice_set, sum_by, zip, sym, ap, ◌∙◌, subst, arith, length-set, ⊎_elim}
+use Rattle.std.proofs.Common.{◌≡◌, ℕ, zero, suc, ◌+◌, ◌<◌, ◌≤◌, false, List, [], ◌∷◌, length, get_or, slice_set, sum_by, zip, sym, ap, ◌∙◌, subst, arith, length-set, ⊎_elim, ◌++◌, slice_get, refl}
 use Rattle.std.proofs.lemmas.Bool.{cases_order, cond-false}
 use Rattle.std.proofs.lemmas.Bool.Decides.{Decides-eqb}
 use Rattle.std.proofs.lemmas.List.{get_or-set_other}
@@ -10,6 +10,8 @@ use Rattle.rc_play_model.specs.Table.{Table, list_at, times_in, IsSound}
 use Rattle.rc_play_model.specs.Bound.{HoldsCards}
 use Rattle.rc_play_model.proofs.Counting.{one_if, passing, same, passing-is}
 use Rattle.rc_play_model.proofs.TableLemmas.{sum-set, get_or-any}
+use Rattle.rc_play_model.specs.Scene.{Vars}
+use Rattle.rc_play_model.specs.Value.{player_bound, player_of}
 
 -- an item counts at each of its places
 counts : (id : ℕ) (xs : List ℕ) (k : ℕ) → k < length xs → get_or xs k 0 ≡ id → 1 ≤ passing (same id) xs
@@ -106,3 +108,8 @@ module _ (shape : Shape) (table : Table) (sound : IsSound shape table) where
         same_index id l j k h less (subst (λ n. k < length (list_at table n)) (sym e) less') is
             (ap (λ n. get_or (list_at table n) k 0) e ∙ is'),
       )
+
+-- the innermost variable
+pub innermost_player : (vars : Vars) (player : ℕ) → player_of (slice_get (vars ++ player_bound player ∷ []) (length vars)) ≡ player
+innermost_player [] player = refl
+innermost_player (bind ∷ vars) player = innermost_player vars player

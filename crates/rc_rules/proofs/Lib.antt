@@ -7,3 +7,4 @@ pub mod ShapeLemmas
 pub mod Elements
 pub mod Rows
 pub mod Ranges
+pub mod MenuLemmas

@@ -4,7 +4,6 @@ use Rattle.std.specs.List.{AllByRecursion}
 use Rattle.std.proofs.lemmas.List.{length-map}
 use Rattle.std.proofs.lemmas.List.FromFn.{get_or-map-range_with_len, length-range_with_len}
 use Rattle.rc_model.specs.Numbers.{below}
-use Rattle.rc_sheet_model.specs.Sheet.{do_item, stage, choice}
 use Rattle.rc_sheet_model.specs.WellFormed.{IsWellFormed}
 use Rattle.rc_play_model.specs.Control.{Control}
 use Rattle.rc_play_model.specs.Table.{Table}
@@ -12,9 +11,9 @@ use Rattle.rc_play_model.specs.Shape.{team_in, shape_of}
 use Rattle.rc_play_model.specs.Menu.{menu_from}
 use Rattle.rc_play_model.specs.About.{About, scene_at, menu_at}
 use Rattle.rc_play_model.specs.Effects.{Dealing}
-use Rattle.rc_play_model.specs.Step.{Part, todo, round, turn, Config, Stop, decide, is_done, is_limit, goes}
+use Rattle.rc_play_model.specs.Step.{Config, Stop, decide, is_done, is_limit}
 use Rattle.rc_play_model.specs.Stop.{Stopped}
-use Rattle.rc_play_model.specs.Decision.{at_site, choose_first}
+use Rattle.rc_play_model.specs.Decision.{at_site}
 use Rattle.rc_play_model.specs.Fits.{IsDecision, FitsSite}
 use Rattle.rc_play_model.specs.Play.{stop_behind}
 use Rattle.rc_play_model.specs.Scores.{scores_of, rank_points}
@@ -22,6 +21,7 @@ use Rattle.rc_play_model.proofs.FrameRanges.{IsInRange}
 use Rattle.rc_play_model.proofs.PlacedLemmas.{IsPlaced, left_placed, first_placed, Ready, ready_behind}
 use Rattle.rc_play_model.proofs.RangeLemmas.{team_within_of}
 use Rattle.rc_play_model.proofs.StopLemmas.{comes_to_stop}
+use Rattle.rc_play_model.proofs.ChoiceLemmas.{choice_goes}
 use Rattle.rc_search_model.specs.Search.{all_points, at_stop, next_behind, worth}
 use Rattle.rc_search_model.specs.Value.{most_points, value, turned_out}
 use Rattle.rc_search_model.specs.Laws.{HasTwoTeams, TwoTeamsAlternate}
@@ -37,20 +37,10 @@ map_again : (f : ℕ → List ℕ) (g : ℕ → ℕ) (h : List ℕ → ℕ) → 
 map_again f g h each [] = refl
 map_again f g h each (x ∷ xs) = ap (λ n. n ∷ map h (map f xs)) (each x) ∙ ap (λ ns. g x ∷ ns) (map_again f g h each xs)
 
--- a choice always leads on
-chosen_goes : (about : About) (dealing : Dealing ℕ) (k x : ℕ) (left : List Part) (table : Table) (control : Control) →
-    (k' : ℕ) × (c : Config) × (choose_first about dealing k x left table control ≡ goes k' c)
-chosen_goes about dealing k x [] table control = (_, _, refl)
-chosen_goes about dealing k x (todo (do_item effects) ∷ rest) table control = (_, _, refl)
-chosen_goes about dealing k x (todo (stage number class end body) ∷ rest) table control = (_, _, refl)
-chosen_goes about dealing k x (todo (choice site alts) ∷ rest) table control = (_, _, refl)
-chosen_goes about dealing k x (round s ∷ rest) table control = (_, _, refl)
-chosen_goes about dealing k x (turn s ∷ rest) table control = (_, _, refl)
-
 -- so there is a next stop
 pub next_there : (about : About) (dealing : Dealing ℕ) (c : Config) (made x : ℕ) → (at : Stopped ℕ) × (next_behind about dealing c made x ≡ Some at)
 next_there about dealing c made x =
-    let g = chosen_goes about dealing made x c.left c.table c.control in
+    let g = choice_goes about dealing made x c.left c.table c.control in
     let s = comes_to_stop about dealing g.0 g.1 in
     (s.0, ap (stop_behind about dealing) g.2 ∙ s.1)
 

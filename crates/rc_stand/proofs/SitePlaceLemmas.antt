@@ -1,5 +1,5 @@
 -- At the places of the stages around a choice site stages begin, and what is known of a machine there.
-use Rattle.std.proofs.Common.{◌≡◌, ℕ, zero, suc, ◌≤◌, ◌<◌, ◌==◌, Bool, true, false, if◌then◌else◌, List, [], ◌∷◌, ◌++◌, map, length, drop, reverse, slice_get, slice_index_or, Option, Some, None, refl, sym, ap, ◌∙◌, subst, true≢false, arith}
+use Rattle.std.proofs.Common.{◌≡◌, ℕ, zero, suc, ◌≤◌, ◌<◌, ◌==◌, Bool, true, false, if◌then◌else◌, List, [], ◌∷◌, ◌++◌, length, drop, reverse, slice_get, slice_index_or, Option, Some, None, refl, sym, ap, ◌∙◌, subst, true≢false, arith}
 use Rattle.std.specs.Prelude.{unwrap_or}
 use Rattle.std.specs.List.{AllByRecursion, AllZip}
 use Rattle.std.proofs.lemmas.List.{reverse-reverse}
@@ -8,7 +8,7 @@ use Rattle.std.proofs.lemmas.Option.{same_Some}
 use Rattle.rc_sheet_model.specs.Sheet.{Class, game_class, player_class, team_class, SheetItem, do_item, stage, choice, SheetItems, no_item, item, Sheet}
 use Rattle.rc_sheet_model.specs.Lists.{item_list}
 use Rattle.rc_sheet_model.specs.WellFormed.{Around, outside, in_stage, IsItem, AreItems, IsWellFormed}
-use Rattle.rc_play_model.specs.Control.{Frame, Control}
+use Rattle.rc_play_model.specs.Control.{Control}
 use Rattle.rc_play_model.specs.Step.{Stage, Part, todo, round, turn, todos}
 use Rattle.rc_play_model.specs.Decision.{left_in_item, left_in, left_at, at_site}
 use Rattle.rc_play_model.specs.Path.{Path}
@@ -21,6 +21,8 @@ use Rattle.rc_stand.specs.Shallow.{AreShallow}
 use Rattle.rc_stand.specs.Places.{IsStageAt, AreStages}
 use Rattle.rc_play_model.specs.Table.{Table}
 use Rattle.rc_play_model.specs.About.{About, menu_at}
+use Rattle.rc_play_model.proofs.FrameLemmas.{numbers_same}
+use Rattle.rc_play_model.proofs.SiteLemmas.{same_site}
 use Rattle.rc_rules.specs.Machine.{CanDecide}
 use Rattle.rc_code.specs.Instruction.{SitePlace, Code}
 use Rattle.rc_code.specs.Laws.{SitesArePlaced}
@@ -129,14 +131,6 @@ stages_around sheet code site path formed here left =
 
 -- A MACHINE AT A SITE
 
-numbers_same : (sheet : Sheet) (stages : List Stage) (frames : List Frame) → AllZip (IsFrameOf sheet) stages frames →
-    map (λ (f : Frame). f.stage) frames ≡ map (λ (s : Stage). s.number) stages
-numbers_same sheet [] [] fit = refl
-numbers_same sheet [] (frame ∷ frames) fit = absurd fit
-numbers_same sheet (s ∷ stages) [] fit = absurd fit
-numbers_same sheet (s ∷ stages) (frame ∷ frames) fit =
-    ap (λ n. n ∷ map (λ (f : Frame). f.stage) frames) (fit.0).stage ∙ ap (λ rest. s.number ∷ rest) (numbers_same sheet stages frames fit.1)
-
 pub site_plays : (m : Flat) (site : ℕ) → IsWellFormed m.about.sheet → FitsSite m.about site m.control → m.place.at_round ≡ false →
     (config_of m).left ≡ left_at m.about.sheet site → m.control.turn ≤ m.about.turns → IsInPlay m
 site_plays m site formed fits here left within =
@@ -151,9 +145,6 @@ site_plays m site formed fits here left within =
       turn = within;
       counts = fits.counts;
     }
-
-same_site : (o : Option ℕ) (site other : ℕ) → o ≡ Some site → o ≡ Some other → site ≡ other
-same_site o site other is is' = ap (λ p. unwrap_or p 0) (sym is ∙ is')
 
 -- a match goes on at the place of a site
 pub placed_match : (about : About) (code : Code) (site : ℕ) (table : Table) (control : Control) → IsWellFormed about.sheet →

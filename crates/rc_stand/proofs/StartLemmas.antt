@@ -1,6 +1,5 @@
 -- Machines at the start, and at the same place.
-use Rattle.std.proofs.Common.{◌≡◌, ℕ, zero, suc, ◌≤◌, List, [], replicate, false, None, true≢false, sym, ap, ◌∙◌, subst, append-nil, arith}
-use Rattle.std.specs.List.{AllByRecursion}
+use Rattle.std.proofs.Common.{◌≡◌, ◌≤◌, List, [], replicate, false, None, true≢false, sym, ap, ◌∙◌, subst, append-nil, arith}
 use Rattle.std.proofs.lemmas.List.Elements.{All-from_recursion}
 use Rattle.rc_sheet_model.specs.Sheet.{SheetItems}
 use Rattle.rc_sheet_model.specs.Lists.{item_list}
@@ -12,6 +11,7 @@ use Rattle.rc_play_model.specs.About.{About}
 use Rattle.rc_play_model.specs.Step.{Config, todos, start}
 use Rattle.rc_play_model.specs.Fits.{HasFrames}
 use Rattle.rc_play_model.proofs.FrameLemmas.{start_frames}
+use Rattle.rc_play_model.proofs.ControlLemmas.{zeros}
 use Rattle.rc_code.specs.Instruction.{Instruction}
 use Rattle.rc_code.specs.Meaning.{items_in}
 use Rattle.rc_stand.specs.Shallow.{AreShallow}
@@ -36,10 +36,6 @@ starts about code serves =
     ap (λ left. record { left = left; table = opening about.shape; control = (at_start about code).control })
     (append-nil (todos (item_list (items_in code))) ∙ ap (λ (items : SheetItems). todos (item_list items)) serves.items)
 
-zeros : (n : ℕ) → AllByRecursion (λ m. m ≤ 0) (replicate n 0)
-zeros zero = tt
-zeros (suc n) = (omega arith, zeros n)
-
 start_plays : (about : About) (code : List Instruction) → Serves about.sheet code → IsWellFormed about.sheet → IsInPlay (at_start about code)
 start_plays about code serves formed =
     let starts' = sym (starts about code serves) in
@@ -48,7 +44,7 @@ start_plays about code serves formed =
       frames = subst HasFrames starts' (start_frames about);
       shallow = subst (λ (c : Config). AreShallow c.left) starts' (start_shallow about formed);
       turn = omega arith;
-      counts = All-from_recursion (λ m. m ≤ 0) (replicate about.sheet.players 0) (zeros about.sheet.players);
+      counts = All-from_recursion (λ m. m ≤ 0) (replicate about.sheet.players 0) (zeros about.sheet.players 0);
     }
 
 -- a machine of these parts

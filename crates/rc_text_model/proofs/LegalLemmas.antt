@@ -6,7 +6,6 @@ use Rattle.std.proofs.lemmas.Bool.Decides.{Decides-int_eq}
 use Rattle.std.proofs.lemmas.List.{length-append}
 use Rattle.std.proofs.lemmas.List.FromFn.{length-map-range_with_len}
 use Rattle.rc_model.specs.Transcript.{Pick, Ending, done, limit, Score, Record, Standing}
-use Rattle.rc_sheet_model.specs.Sheet.{do_item, stage, choice}
 use Rattle.rc_play_model.specs.ItemBounds.{Bound}
 use Rattle.rc_text_model.specs.Bounds.{are_bounds}
 use Rattle.rc_text_model.specs.Naming.{marks_there}
@@ -15,7 +14,7 @@ use Rattle.rc_play_model.specs.Control.{Control}
 use Rattle.rc_play_model.specs.Table.{Table}
 use Rattle.rc_play_model.specs.About.{About, menu_at}
 use Rattle.rc_play_model.specs.Effects.{Dealing}
-use Rattle.rc_play_model.specs.Step.{Part, todo, round, turn, Config, goes, Stop, decide, is_done, is_limit, start}
+use Rattle.rc_play_model.specs.Step.{Part, turn, Config, Stop, decide, is_done, is_limit, start}
 use Rattle.rc_play_model.specs.Stop.{Stopped, stop_of}
 use Rattle.rc_play_model.specs.Decision.{choose, choose_first}
 use Rattle.rc_play_model.specs.Play.{from_stop, stop_behind, follow, pick_at, stop_for}
@@ -24,6 +23,7 @@ use Rattle.rc_play_model.specs.Plan.{Plan, deal_at}
 use Rattle.rc_play_model.specs.House.{standings_of}
 use Rattle.rc_play_model.proofs.StopLemmas.{comes_to_stop}
 use Rattle.rc_play_model.proofs.Faces.{both_true}
+use Rattle.rc_play_model.proofs.ChoiceLemmas.{choice_goes}
 use Rattle.rc_text_model.specs.Why.{Why, Illegal, by_match, by_shuffle, by_seat, by_menu, by_item, by_name, by_end, by_score, by_standing}
 use Rattle.rc_text_model.specs.Rows.{unless, ◌or◌, has_ended, is_ending, lacking_row, opening_row, decision_row, stopped_row, named_row, chosen_row, shuffled_row, ending_row, is_score, is_the_score, scores_at, scored_row, is_standing, is_the_standing, further_row, ranked_row, end_row}
 use Rattle.rc_text_model.specs.Judged.{at_line, play_after}
@@ -311,24 +311,14 @@ opening_back plan m r lt number deal seats =
 
 -- ---- choose lines
 
--- behind a choice there is a stop
-goes_first : (about : About) (d : Dealing ℕ) (k x : ℕ) (left : List Part) (table : Table) (control : Control) →
-    (k' : ℕ) × (c : Config) × (choose_first about d k x left table control ≡ goes k' c)
-goes_first about d k x [] table control = (_, _, refl)
-goes_first about d k x (todo (do_item effects) ∷ rest) table control = (_, _, refl)
-goes_first about d k x (todo (stage number class end body) ∷ rest) table control = (_, _, refl)
-goes_first about d k x (todo (choice site alts) ∷ rest) table control = (_, _, refl)
-goes_first about d k x (round s ∷ rest) table control = (_, _, refl)
-goes_first about d k x (turn s ∷ rest) table control = (_, _, refl)
-
 goes_behind : (about : About) (d : Dealing ℕ) (k x : ℕ) (left : List Part) (table : Table) (control : Control) →
     (next : Stopped ℕ) × (stop_behind about d (choose_first about d k x left table control) ≡ Some next)
 goes_behind about d k x left table control =
-    let g = goes_first about d k x left table control in
+    let g = choice_goes about d k x left table control in
     let s = comes_to_stop about d g.0 g.1 in
     (s.0, ap (stop_behind about d) g.2 ∙ s.1)
 
-nothing_more : (about : About) (d : Dealing ℕ) (o : Option (Stopped ℕ)) → from_stop (follow about d []) o ≡ o
+pub nothing_more : (about : About) (d : Dealing ℕ) (o : Option (Stopped ℕ)) → from_stop (follow about d []) o ≡ o
 nothing_more about d None = refl
 nothing_more about d (Some at) = refl
 

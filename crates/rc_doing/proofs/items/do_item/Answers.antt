@@ -1,13 +1,7 @@
-use Rattle.std.proofs.Common.{◌≡◌, ℕ, zero, suc, ◌<◌, rules, List, [], ◌∷◌, length, get_or, slice_index_or, sym, ap, subst, arith}
-use Rattle.rc_sheet_model.specs.Sheet.{Alt, Sheet}
-use Rattle.rc_sheet_model.specs.WellFormed.{Around, IsAlt, AreAlts}
+use Rattle.std.proofs.Common.{◌≡◌, ◌<◌, rules, length, slice_index_or, sym, ap, subst, arith}
+use Rattle.rc_sheet_model.specs.WellFormed.{IsAlt}
+use Rattle.rc_play_model.proofs.SiteLemmas.{alt_among}
 use Rattle.rc_doing.proofs.items.do_item.Goals as goal
-
-each_alt : (sheet : Sheet) (around : Around) (alts : List Alt) → AreAlts sheet around alts → (i : ℕ) (alt : Alt) → i < length alts →
-    alt ≡ get_or alts i alt → IsAlt sheet around alt
-each_alt sheet around [] are i alt lt is = absurd (omega (arith, lt))
-each_alt sheet around (a ∷ alts) are zero alt lt is = subst (IsAlt sheet around) (sym is) are.0
-each_alt sheet around (a ∷ alts) are (suc i) alt lt is = each_alt sheet around alts are.1 i alt (omega (arith, lt)) is
 
 -- an alternative outside all binders stands under no variable
 pub do_here-requires-clause-well : goal.do_here-requires-clause-well
@@ -24,5 +18,5 @@ do_here-requires-clause-well g c =
       around,
       omega (arith, outside),
       omega (arith, long),
-      subst (IsAlt sheet around) (sym c.alt.ensures) (each_alt sheet around alts c.requires.well.2 c.args.item.now.alt offer lt is),
+      subst (IsAlt sheet around) (sym c.alt.ensures) (alt_among sheet around alts c.requires.well.2 c.args.item.now.alt offer lt is),
     )

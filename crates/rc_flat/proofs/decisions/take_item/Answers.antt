@@ -7,8 +7,8 @@ use Rattle.rc_rules.specs.Control.{control_seen}
 use Rattle.rc_value.specs.Current.{IsCurrent}
 use Rattle.rc_code.specs.Seen.{block_seen, list_seen}
 use Rattle.rc_play_model.specs.Control.{Control}
+use Rattle.rc_play_model.proofs.CountLemmas.{one_decision_counts}
 use Rattle.rc_stand.specs.Places.{went_to, IsPlace}
-use Rattle.rc_stand.proofs.PlayLemmas.{one_decision_counts}
 use Rattle.rc_stand.proofs.PlaceLemmas.{goes_on_behind, went_place}
 use Rattle.rc_stand.proofs.KeptLemmas.{so_many, item_kept, stands_here}
 use Rattle.rc_state.specs.Point.{point_of}

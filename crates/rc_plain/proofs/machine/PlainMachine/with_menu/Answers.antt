@@ -6,10 +6,11 @@ use Rattle.rc_play_model.specs.Menu.{alts_at}
 use Rattle.rc_play_model.specs.Step.{Part}
 use Rattle.rc_play_model.specs.Decision.{left_at}
 use Rattle.rc_play_model.specs.Fits.{FitsSite}
+use Rattle.rc_play_model.proofs.SiteLemmas.{same_site, some_alts}
 use Rattle.rc_rules.specs.Control.{control_seen}
 use Rattle.rc_plain.specs.Plain.{Plain}
 use Rattle.rc_plain.specs.State.{KeepsMenu}
-use Rattle.rc_plain.proofs.MachineLemmas.{site_plays, same_site, some_alts}
+use Rattle.rc_plain.proofs.MachineLemmas.{site_plays}
 use Rattle.rc_plain.proofs.machine.PlainMachine.with_menu.Goals as goal
 
 pub path_of-path-requires : goal.path_of-path-requires

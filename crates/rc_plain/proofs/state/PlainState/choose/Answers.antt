@@ -8,6 +8,7 @@ use Rattle.rc_play_model.specs.Effects.{does}
 use Rattle.rc_play_model.specs.Step.{goes}
 use Rattle.rc_play_model.specs.Path.{stage_in, past}
 use Rattle.rc_ast.specs.Items.{alts_seen}
+use Rattle.rc_play_model.proofs.CountLemmas.{one_decision_counts}
 use Rattle.rc_rules.specs.Control.{control_seen, frames_seen}
 use Rattle.rc_state.specs.Point.{point_of}
 use Rattle.rc_plain.specs.Paths.{IsPath}
@@ -15,7 +16,7 @@ use Rattle.rc_plain.specs.Plain.{config_of}
 use Rattle.rc_plain.specs.State.{plain_of}
 use Rattle.rc_plain.proofs.PathLemmas.{item_outside, not_round}
 use Rattle.rc_plain.proofs.StepCases.{moved, choose_leads}
-use Rattle.rc_plain.proofs.PlayLemmas.{goes_on_behind, past_is_path, one_decision_counts}
+use Rattle.rc_plain.proofs.PlayLemmas.{goes_on_behind, past_is_path}
 use Rattle.rc_plain.proofs.state.PlainState.choose.Goals as goal
 
 pub do_item-requires-clause-well : goal.do_item-requires-clause-well

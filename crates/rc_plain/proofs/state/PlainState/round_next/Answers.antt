@@ -3,13 +3,14 @@ use Rattle.rc_sheet_model.specs.WellFormed.{outside}
 use Rattle.rc_play_model.specs.Step.{Stage, goes, with_frames, one_turn_more}
 use Rattle.rc_play_model.specs.Path.{stage_in}
 use Rattle.rc_ast.specs.Expressions.{test_seen}
+use Rattle.rc_play_model.proofs.CountLemmas.{one_turn_counts}
 use Rattle.rc_rules.specs.Control.{frames_seen}
 use Rattle.rc_plain.specs.Paths.{IsPath}
 use Rattle.rc_plain.specs.Plain.{config_of}
 use Rattle.rc_plain.specs.State.{plain_of}
 use Rattle.rc_plain.proofs.PathLemmas.{item_outside, end_outside}
 use Rattle.rc_plain.proofs.StepCases.{moved, close_leads, round_leads}
-use Rattle.rc_plain.proofs.PlayLemmas.{goes_on, past_is_path, into_is_path, few_places, one_turn_counts, still}
+use Rattle.rc_plain.proofs.PlayLemmas.{goes_on, past_is_path, into_is_path, few_places, still}
 use Rattle.rc_plain.proofs.KeptLemmas.{not_offered}
 use Rattle.rc_plain.proofs.state.PlainState.round_next.Goals as goal
 

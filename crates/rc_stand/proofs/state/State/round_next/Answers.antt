@@ -1,12 +1,13 @@
 use Rattle.std.proofs.Common.{◌+◌, ◌<◌, ◌≤◌, ap, sym, ◌∙◌, subst, true≢false, arith}
 use Rattle.rc_play_model.specs.Step.{goes, with_frames, one_turn_more}
+use Rattle.rc_play_model.proofs.CountLemmas.{one_turn_counts}
 use Rattle.rc_rules.specs.Control.{frames_seen}
 use Rattle.rc_code.specs.Seen.{list_seen}
 use Rattle.rc_stand.specs.Flat.{config_of}
 use Rattle.rc_stand.specs.State.{flat_of}
 use Rattle.rc_stand.proofs.StepCases.{moved, close_leads, round_leads, over_leads}
 use Rattle.rc_stand.specs.Places.{IsPlace}
-use Rattle.rc_stand.proofs.PlayLemmas.{one_turn_counts, still}
+use Rattle.rc_stand.proofs.PlayLemmas.{still}
 use Rattle.rc_stand.proofs.PlaceLemmas.{goes_on, closed_place, went_place}
 use Rattle.rc_stand.proofs.state.State.round_next.Goals as goal
 
