@@ -2,7 +2,7 @@
 use Rattle.std.proofs.Common.{◌≡◌, ℕ, zero, suc, ◌+◌, ◌≤◌, Bool, true, false, not, ◌||◌, cond, List, [], ◌∷◌, length, take, refl, sym, ap, ap₂, ◌∙◌, arith}
 use Rattle.std.specs.Cmp.{IsEquivalence, decided}
 use Rattle.std.specs.List.{AllByRecursion, IsDistinct}
-use Rattle.std.proofs.lemmas.Bool.{and_parts, false≢true, or_parts}
+use Rattle.std.proofs.lemmas.Bool.{and_parts, false≢true, or_parts, or_right}
 use Rattle.std.proofs.lemmas.Map.Made.{length-from_keys}
 use Rattle.std.specs.Set.{is_member, distinct_count}
 use Rattle.rc_redraw.specs.Asking.{Key}
@@ -13,7 +13,7 @@ use Rattle.rc_cache.specs.Replay.{stands, without, after, is_met, replay_from, l
 use Rattle.rc_cache.specs.Hits.{new_from, different}
 use Rattle.rc_cache.specs.Laws.{HasKeysOf}
 use Rattle.rc_cache.proofs.CacheLemmas.{length-without}
-use Rattle.rc_cache.proofs.ReplayLemmas.{or-right, stands-without, stands-take}
+use Rattle.rc_cache.proofs.ReplayLemmas.{stands-without, stands-take}
 
 -- no key is the same as one behind it
 abbrev Apart : List Key → Type 0
@@ -118,7 +118,7 @@ kinds_many seen (k ∷ ks) = by (stands k seen) (kinds_many (k ∷ seen) ks)
 kinds_new : (seen ks : List Key) (j : Key) → stands j seen ≡ true → stands j (kinds seen ks) ≡ false
 kinds_new seen [] j h = refl
 kinds_new seen (k ∷ ks) j h =
-    by (stands k seen) refl (kinds_new (k ∷ seen) ks j (ap (λ b. same_key j k || b) h ∙ or-right (same_key j k)))
+    by (stands k seen) refl (kinds_new (k ∷ seen) ks j (ap (λ b. same_key j k || b) h ∙ or_right (same_key j k) true refl))
   where
     by : (b : Bool) → stands k seen ≡ b → stands j (kinds (k ∷ seen) ks) ≡ false →
         stands j (cond b (kinds (k ∷ seen) ks) (k ∷ kinds (k ∷ seen) ks)) ≡ false

@@ -1,7 +1,7 @@
 -- What is found going over locations is the least of the offsets that are out of sight.
-use Rattle.std.proofs.Common.{◌≡◌, ℕ, suc, ◌≤◌, min, Bool, true, false, not, cond, if◌then◌else◌, List, [], ◌∷◌, map, filter, Option, Some, None, All, ◌⊎◌, inl, inr, refl, ap, sym, ◌∙◌, arith}
+use Rattle.std.proofs.Common.{◌≡◌, ℕ, ◌≤◌, min, Bool, true, false, not, cond, if◌then◌else◌, List, [], ◌∷◌, map, filter, Option, Some, None, All, ◌⊎◌, inl, inr, refl, ap, sym, ◌∙◌, arith}
 use Rattle.std.specs.List.{Contains}
-use Rattle.std.proofs.lemmas.List.Elements.{All-nil, All-cons}
+use Rattle.std.proofs.lemmas.List.Elements.{All-nil, All-cons, Contains-append_right}
 use Rattle.rc_sheet_model.specs.Sheet.{LocName, Loc, Sheet}
 use Rattle.rc_sheet_model.specs.Sight.{is_in_sight, locs_in_items, unseen_locs, unseen_offsets, IsInSight, IsUnseen}
 use Rattle.rc_flow.specs.Least.{with_offset, least_with}
@@ -40,9 +40,6 @@ no_locs (loc ∷ locs) is = absurd cc
 Contains-head : (at : ℕ) (ats : List ℕ) → Contains (at ∷ ats) at
 Contains-head at ats = (0, omega arith, refl)
 
-Contains-tail : (first : ℕ) (ats : List ℕ) (at : ℕ) → Contains ats at → Contains (first ∷ ats) at
-Contains-tail first ats at (k, within, is) = (suc k, omega arith, is)
-
 -- the offset is the least of the one that was found and the others
 record IsLeastOf (found : Option ℕ) (ats : List ℕ) (at : ℕ) : Type 0 where
   stands : (found ≡ Some at) ⊎ Contains ats at
@@ -67,7 +64,7 @@ is_one_of (Some old) at = by_order (one_is_less old at) where
 
 stands_behind : (found : Option ℕ) (at : ℕ) (ats : List ℕ) (least : ℕ)
     → (Some (with_offset found at) ≡ Some least) ⊎ Contains ats least → (found ≡ Some least) ⊎ Contains (at ∷ ats) least
-stands_behind found at ats least (inr stands) = inr (Contains-tail at ats least stands)
+stands_behind found at ats least (inr stands) = inr (Contains-append_right (at ∷ []) ats least stands)
 stands_behind found at ats least (inl is) =
     let same : with_offset found at ≡ least = cc in
     of_two (is_one_of found at) same where

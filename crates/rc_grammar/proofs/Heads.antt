@@ -2,6 +2,7 @@
 use Rattle.std.proofs.Common.{◌≡◌, ℕ, Bool, true, false, ◌&&◌, ◌||◌, if◌then◌else◌, List, [], ◌∷◌, Option, Some, None, is_none, refl, sym, ap, ap₂, ◌∙◌}
 use Rattle.std.specs.List.{find}
 use Rattle.std.proofs.lemmas.Slice.Eq.{bytes_eq-Decides}
+use Rattle.std.proofs.lemmas.Bool.{and_right}
 use Rattle.rc_model.specs.Tree.{Tree, word, list, Trees, nil}
 use Rattle.rc_model.specs.Words.{is_variable}
 use Rattle.rc_grammar.specs.Keyword.{text_of}
@@ -152,10 +153,6 @@ not_team (Word keyword.Team) not_wanted = absurd cc
 not_team (Word k) not_wanted = refl
 not_team head not_wanted = refl
 
-and_false : (b : Bool) → (b && false) ≡ false
-and_false true = refl
-and_false false = refl
-
 not_told : (head : Head) (others : Trees) → wants_second head ≡ false
     → (r : Rule) → (begins (tree_by head) r && is_told (second_word r) others) ≡ false
 not_told head others not_wanted rule.CreatePlayers = ap (λ begun. begun && is_told (Some keyword.Players) others) (not_create head not_wanted)
@@ -170,7 +167,7 @@ not_told head others not_wanted rule.Reverse = ap (λ begun. begun && is_told (S
 not_told head others not_wanted rule.CurrentPlayer = ap (λ begun. begun && is_told (Some keyword.Player) others) (not_current head not_wanted)
 not_told head others not_wanted rule.CurrentTeam = ap (λ begun. begun && is_told (Some keyword.Team) others) (not_current head not_wanted)
 not_told head others not_wanted rule.TeamOf = ap (λ begun. begun && is_told (Some keyword.Of) others) (not_team head not_wanted)
-not_told head others not_wanted r = and_false (begins (tree_by head) r)
+not_told head others not_wanted r = and_right (begins (tree_by head) r) false refl
 
 find_none : (test : Rule → Bool) → ((r : Rule) → test r ≡ false) → (rules : List Rule) → find test rules ≡ None
 find_none test fails [] = refl

@@ -3,6 +3,7 @@ use Rattle.std.proofs.Common.{◌≡◌, ℕ, ◌+◌, ◌<◌, ◌≤◌, ◌&&
 use mathlib.Core.Bool.{beq}
 use Rattle.std.proofs.lemmas.List.{drop_all, length-append, map-append}
 use Rattle.std.proofs.lemmas.List.Elements.{All-append, All-cons, All-nil}
+use Rattle.std.proofs.lemmas.Bool.{or_right, and_right}
 use Rattle.rc_sheet_model.specs.Sheet.{Test as PureTest}
 use Rattle.rc_play_model.specs.Scene.{CardValue, id_of}
 use Rattle.rc_play_model.specs.Value.{Scene as PureScene, Bind as PureBind, card_bound, player_bound, test_value, tests_value}
@@ -19,22 +20,14 @@ use Rattle.rc_menu.specs.Asks.{ask_value, asks_value, met_value, ask_depth, AllF
 use Rattle.rc_menu.specs.Known.{IsKnownAt}
 use Rattle.rc_menu.specs.Menu.{extended}
 
-or_yes : (x : Bool) → (x || true) ≡ true
-or_yes true = refl
-or_yes false = refl
-
-and_no : (x : Bool) → (x && false) ≡ false
-and_no true = refl
-and_no false = refl
-
 -- an answer among others settles all, or goes
 joined_with : (any v : Bool) (xs more : List Bool) → joined any (xs ++ v ∷ more) ≡ cond (beq v any) any (joined any (xs ++ more))
 joined_with true true [] more = refl
-joined_with true true (x ∷ xs) more = ap (λ b. x || b) (joined_with true true xs more) ∙ or_yes x
+joined_with true true (x ∷ xs) more = ap (λ b. x || b) (joined_with true true xs more) ∙ or_right x true refl
 joined_with true false [] more = refl
 joined_with true false (x ∷ xs) more = ap (λ b. x || b) (joined_with true false xs more)
 joined_with false false [] more = refl
-joined_with false false (x ∷ xs) more = ap (λ b. x && b) (joined_with false false xs more) ∙ and_no x
+joined_with false false (x ∷ xs) more = ap (λ b. x && b) (joined_with false false xs more) ∙ and_right x false refl
 joined_with false true [] more = refl
 joined_with false true (x ∷ xs) more = ap (λ b. x && b) (joined_with false true xs more)
 
