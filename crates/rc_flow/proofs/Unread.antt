@@ -60,13 +60,13 @@ module _ {C : Type 0} (scene : Scene C) (outer : List (Bind C)) (m m' : Bind C) 
   inside inner n x = append_assoc outer (n ∷ inner) (x ∷ [])
 
   mutual
-    same_card : (inner : List (Bind C)) (e : CardExpr) → reads_card (length outer) e ≡ false →
+    pub unread_card : (inner : List (Bind C)) (e : CardExpr) → reads_card (length outer) e ≡ false →
         card_value scene (outer ++ m ∷ inner) e ≡ card_value scene (outer ++ m' ∷ inner) e
-    same_card inner (card_var var) e = ap card_of (at_var inner var e)
-    same_card inner (top_card cards) e = ap last_of (same_coll inner cards e)
-    same_card inner (bottom_card cards) e = ap first_of (same_coll inner cards e)
-    same_card inner (max_card cards points) e = ap (best_of int_more (worth scene points)) (same_coll inner cards e)
-    same_card inner (min_card cards points) e = ap (best_of int_lt (worth scene points)) (same_coll inner cards e)
+    unread_card inner (card_var var) e = ap card_of (at_var inner var e)
+    unread_card inner (top_card cards) e = ap last_of (same_coll inner cards e)
+    unread_card inner (bottom_card cards) e = ap first_of (same_coll inner cards e)
+    unread_card inner (max_card cards points) e = ap (best_of int_more (worth scene points)) (same_coll inner cards e)
+    unread_card inner (min_card cards points) e = ap (best_of int_lt (worth scene points)) (same_coll inner cards e)
 
     same_coll : (inner : List (Bind C)) (e : CollExpr) → reads_coll (length outer) e ≡ false →
         coll_value scene (outer ++ m ∷ inner) e ≡ coll_value scene (outer ++ m' ∷ inner) e
@@ -76,7 +76,7 @@ module _ {C : Type 0} (scene : Scene C) (outer : List (Bind C)) (m m' : Bind C) 
         let a = left (reads_coll (length outer) cards) (reads_test (length outer) t) e in
         let b = right (reads_coll (length outer) cards) (reads_test (length outer) t) e in
         ap (filter (λ c. test_value scene ((outer ++ m ∷ inner) ++ card_bound c ∷ []) t)) (same_coll inner cards a)
-        ∙ ap (λ f. filter f (coll_value scene (outer ++ m' ∷ inner) cards)) (fun_ext (λ c. ap (λ vars. test_value scene vars t) (inside inner m (card_bound c)) ∙ same_test (inner ++ (card_bound c) ∷ []) t b ∙ ap (λ vars. test_value scene vars t) (sym (inside inner m' (card_bound c)))))
+        ∙ ap (λ f. filter f (coll_value scene (outer ++ m' ∷ inner) cards)) (fun_ext (λ c. ap (λ vars. test_value scene vars t) (inside inner m (card_bound c)) ∙ unread_test (inner ++ (card_bound c) ∷ []) t b ∙ ap (λ vars. test_value scene vars t) (sym (inside inner m' (card_bound c)))))
     same_coll inner (union_of parts) e = ap cut (same_colls inner parts e)
     same_coll inner (known_in loc) e = ap (λ p. cut (known_there scene p)) (same_loc inner loc e)
 
@@ -93,44 +93,44 @@ module _ {C : Type 0} (scene : Scene C) (outer : List (Bind C)) (m m' : Bind C) 
     same_int inner (number num) e = ap (number_there scene.known.numbers) (same_num inner num e)
     same_int inner (size_of cards) e = ap (λ xs. pos (length xs)) (same_coll inner cards e)
     same_int inner (sum_of cards points) e = ap (sum_worth scene points) (same_coll inner cards e)
-    same_int inner (worth_of card points) e = ap (worth_of_any scene points) (same_card inner card e)
+    same_int inner (worth_of card points) e = ap (worth_of_any scene points) (unread_card inner card e)
     same_int inner (add a b) e = ap₂ (λ x y. clamped (x +ℤ y)) (same_int inner a (left (reads_int (length outer) a) (reads_int (length outer) b) e)) (same_int inner b (right (reads_int (length outer) a) (reads_int (length outer) b) e))
     same_int inner (subtract a b) e = ap₂ (λ x y. clamped (x -ℤ y)) (same_int inner a (left (reads_int (length outer) a) (reads_int (length outer) b) e)) (same_int inner b (right (reads_int (length outer) a) (reads_int (length outer) b) e))
     same_int inner (multiply a b) e = ap₂ (λ x y. clamped (x *ℤ y)) (same_int inner a (left (reads_int (length outer) a) (reads_int (length outer) b) e)) (same_int inner b (right (reads_int (length outer) a) (reads_int (length outer) b) e))
 
-    same_test : (inner : List (Bind C)) (t : Test) → reads_test (length outer) t ≡ false →
+    pub unread_test : (inner : List (Bind C)) (t : Test) → reads_test (length outer) t ≡ false →
         test_value scene (outer ++ m ∷ inner) t ≡ test_value scene (outer ++ m' ∷ inner) t
-    same_test inner (eq_int a b) e = ap₂ int_eq (same_int inner a (left (reads_int (length outer) a) (reads_int (length outer) b) e)) (same_int inner b (right (reads_int (length outer) a) (reads_int (length outer) b) e))
-    same_test inner (eq_card a b) e =
-        ap₂ (λ x y. both face_eq (option_map scene.face x) (option_map scene.face y)) (same_card inner a (left (reads_card (length outer) a) (reads_card (length outer) b) e)) (same_card inner b (right (reads_card (length outer) a) (reads_card (length outer) b) e))
-    same_test inner (eq_attr a attr b attr') e =
-        ap₂ (λ x y. both nat_same (attr_of_any scene attr x) (attr_of_any scene attr' y)) (same_card inner a (left (reads_card (length outer) a) (reads_card (length outer) b) e)) (same_card inner b (right (reads_card (length outer) a) (reads_card (length outer) b) e))
-    same_test inner (eq_who a b) e = ap₂ ◌==◌ (same_who inner a (left (reads_who (length outer) a) (reads_who (length outer) b) e)) (same_who inner b (right (reads_who (length outer) a) (reads_who (length outer) b) e))
-    same_test inner (ne t) e = ap not (same_test inner t e)
-    same_test inner (less a b) e = ap₂ int_lt (same_int inner a (left (reads_int (length outer) a) (reads_int (length outer) b) e)) (same_int inner b (right (reads_int (length outer) a) (reads_int (length outer) b) e))
-    same_test inner (less_eq a b) e = ap₂ int_le (same_int inner a (left (reads_int (length outer) a) (reads_int (length outer) b) e)) (same_int inner b (right (reads_int (length outer) a) (reads_int (length outer) b) e))
-    same_test inner (more a b) e = ap₂ (λ x y. int_lt y x) (same_int inner a (left (reads_int (length outer) a) (reads_int (length outer) b) e)) (same_int inner b (right (reads_int (length outer) a) (reads_int (length outer) b) e))
-    same_test inner (more_eq a b) e = ap₂ (λ x y. int_le y x) (same_int inner a (left (reads_int (length outer) a) (reads_int (length outer) b) e)) (same_int inner b (right (reads_int (length outer) a) (reads_int (length outer) b) e))
-    same_test inner (has_value card attr value) e = ap (λ x. both nat_same (attr_of_any scene attr x) (Some value)) (same_card inner card e)
-    same_test inner (and_of tests) e = ap (list_all (λ b. b)) (same_tests inner tests e)
-    same_test inner (or_of tests) e = ap (list_any (λ b. b)) (same_tests inner tests e)
-    same_test inner (not_of t) e = ap not (same_test inner t e)
-    same_test inner (all_of domain bound t) e =
+    unread_test inner (eq_int a b) e = ap₂ int_eq (same_int inner a (left (reads_int (length outer) a) (reads_int (length outer) b) e)) (same_int inner b (right (reads_int (length outer) a) (reads_int (length outer) b) e))
+    unread_test inner (eq_card a b) e =
+        ap₂ (λ x y. both face_eq (option_map scene.face x) (option_map scene.face y)) (unread_card inner a (left (reads_card (length outer) a) (reads_card (length outer) b) e)) (unread_card inner b (right (reads_card (length outer) a) (reads_card (length outer) b) e))
+    unread_test inner (eq_attr a attr b attr') e =
+        ap₂ (λ x y. both nat_same (attr_of_any scene attr x) (attr_of_any scene attr' y)) (unread_card inner a (left (reads_card (length outer) a) (reads_card (length outer) b) e)) (unread_card inner b (right (reads_card (length outer) a) (reads_card (length outer) b) e))
+    unread_test inner (eq_who a b) e = ap₂ ◌==◌ (same_who inner a (left (reads_who (length outer) a) (reads_who (length outer) b) e)) (same_who inner b (right (reads_who (length outer) a) (reads_who (length outer) b) e))
+    unread_test inner (ne t) e = ap not (unread_test inner t e)
+    unread_test inner (less a b) e = ap₂ int_lt (same_int inner a (left (reads_int (length outer) a) (reads_int (length outer) b) e)) (same_int inner b (right (reads_int (length outer) a) (reads_int (length outer) b) e))
+    unread_test inner (less_eq a b) e = ap₂ int_le (same_int inner a (left (reads_int (length outer) a) (reads_int (length outer) b) e)) (same_int inner b (right (reads_int (length outer) a) (reads_int (length outer) b) e))
+    unread_test inner (more a b) e = ap₂ (λ x y. int_lt y x) (same_int inner a (left (reads_int (length outer) a) (reads_int (length outer) b) e)) (same_int inner b (right (reads_int (length outer) a) (reads_int (length outer) b) e))
+    unread_test inner (more_eq a b) e = ap₂ (λ x y. int_le y x) (same_int inner a (left (reads_int (length outer) a) (reads_int (length outer) b) e)) (same_int inner b (right (reads_int (length outer) a) (reads_int (length outer) b) e))
+    unread_test inner (has_value card attr value) e = ap (λ x. both nat_same (attr_of_any scene attr x) (Some value)) (unread_card inner card e)
+    unread_test inner (and_of tests) e = ap (list_all (λ b. b)) (same_tests inner tests e)
+    unread_test inner (or_of tests) e = ap (list_any (λ b. b)) (same_tests inner tests e)
+    unread_test inner (not_of t) e = ap not (unread_test inner t e)
+    unread_test inner (all_of domain bound t) e =
         let a = left (reads_domain (length outer) domain) (reads_test (length outer) t) e in
         let b = right (reads_domain (length outer) domain) (reads_test (length outer) t) e in
         ap (list_all (λ x. test_value scene ((outer ++ m ∷ inner) ++ x ∷ []) t)) (same_members inner domain a)
-        ∙ ap (λ f. list_all f (members scene (outer ++ m' ∷ inner) domain)) (fun_ext (λ x. ap (λ vars. test_value scene vars t) (inside inner m x) ∙ same_test (inner ++ x ∷ []) t b ∙ ap (λ vars. test_value scene vars t) (sym (inside inner m' x))))
-    same_test inner (any_of domain bound t) e =
+        ∙ ap (λ f. list_all f (members scene (outer ++ m' ∷ inner) domain)) (fun_ext (λ x. ap (λ vars. test_value scene vars t) (inside inner m x) ∙ unread_test (inner ++ x ∷ []) t b ∙ ap (λ vars. test_value scene vars t) (sym (inside inner m' x))))
+    unread_test inner (any_of domain bound t) e =
         let a = left (reads_domain (length outer) domain) (reads_test (length outer) t) e in
         let b = right (reads_domain (length outer) domain) (reads_test (length outer) t) e in
         ap (list_any (λ x. test_value scene ((outer ++ m ∷ inner) ++ x ∷ []) t)) (same_members inner domain a)
-        ∙ ap (λ f. list_any f (members scene (outer ++ m' ∷ inner) domain)) (fun_ext (λ x. ap (λ vars. test_value scene vars t) (inside inner m x) ∙ same_test (inner ++ x ∷ []) t b ∙ ap (λ vars. test_value scene vars t) (sym (inside inner m' x))))
+        ∙ ap (λ f. list_any f (members scene (outer ++ m' ∷ inner) domain)) (fun_ext (λ x. ap (λ vars. test_value scene vars t) (inside inner m x) ∙ unread_test (inner ++ x ∷ []) t b ∙ ap (λ vars. test_value scene vars t) (sym (inside inner m' x))))
 
     same_tests : (inner : List (Bind C)) (e : Tests) → reads_tests (length outer) e ≡ false →
         tests_value scene (outer ++ m ∷ inner) e ≡ tests_value scene (outer ++ m' ∷ inner) e
     same_tests inner no_test e = refl
     same_tests inner (test t tests) e =
-        ap₂ (λ x xs. x ∷ xs) (same_test inner t (left (reads_test (length outer) t) (reads_tests (length outer) tests) e))
+        ap₂ (λ x xs. x ∷ xs) (unread_test inner t (left (reads_test (length outer) t) (reads_tests (length outer) tests) e))
         (same_tests inner tests (right (reads_test (length outer) t) (reads_tests (length outer) tests) e))
 
     same_members : (inner : List (Bind C)) (domain : Domain) → reads_domain (length outer) domain ≡ false →
@@ -139,11 +139,3 @@ module _ {C : Type 0} (scene : Scene C) (outer : List (Bind C)) (m m' : Bind C) 
     same_members inner (each_card cards) e = ap (map (λ c. card_bound c)) (same_coll inner cards e)
     same_members inner (each_group cards attr) e =
         ap (λ xs. map (λ g. group_bound g) (groups_by scene attr xs)) (same_coll inner cards e)
-
-  pub unread_test : (inner : List (Bind C)) (t : Test) → reads_test (length outer) t ≡ false →
-      test_value scene (outer ++ m ∷ inner) t ≡ test_value scene (outer ++ m' ∷ inner) t
-  unread_test = same_test
-
-  pub unread_card : (inner : List (Bind C)) (e : CardExpr) → reads_card (length outer) e ≡ false →
-      card_value scene (outer ++ m ∷ inner) e ≡ card_value scene (outer ++ m' ∷ inner) e
-  unread_card = same_card
