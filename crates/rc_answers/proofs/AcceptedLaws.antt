@@ -8,6 +8,7 @@ use Rattle.rc_grammar.specs.declared.fault.SheetFault.{SheetFault}
 use Rattle.rc_faults.specs.SecondFaults.{sheet_fault}
 use Rattle.rc_sheet_model.specs.Sheet.{Sheet, Loc}
 use Rattle.rc_sheet_model.specs.Sight.{unseen_locs, unseen_offsets, IsInSight, IsUnseen}
+use Rattle.rc_play_model.proofs.SiteLemmas.{unwrap}
 use Rattle.rc_sheet_laws.proofs.One.Sheet.{one_well_formed}
 use Rattle.rc_answers.specs.declared.refusal.Refusal.TheVariants as refusal
 use Rattle.rc_answers.specs.declared.status.SourceKind.{SourceKind}
@@ -16,7 +17,6 @@ use Rattle.rc_sheet_laws.specs.Accepted.{IsSheetOf, IsAccepted}
 use Rattle.rc_trick.proofs.Accepted.{none_unseen}
 use Rattle.rc_answers.specs.Accepted.{HasPartFault, HasFirstFault}
 use Rattle.rc_answers.specs.Reading.{HasSheetFault, IsAcceptedWith}
-use Rattle.rc_answers.proofs.Options.{some_is}
 
 -- a form has one sheet
 pub one_sheet : (form : Tree) (sheet other : Sheet) → IsSheetOf form sheet → IsSheetOf form other → other ≡ sheet
@@ -77,7 +77,7 @@ one_first_fault : (form : Tree) (kind other : SourceKind) (at offset : ℕ)
     → HasFirstFault form kind at → HasFirstFault form other offset
     → refusal.Sheet other offset ≡ refusal.Sheet kind at
 one_first_fault form kind other at offset (inl has) (inl has') =
-    let same : has'.0 ≡ has.0 = some_is (sym has'.1 ∙ has.1) in
+    let same : has'.0 ≡ has.0 = unwrap _ _ (sym has'.1 ∙ has.1) in
     same_fault kind other at offset
     (has'.3 ∙ ap (λ (found : SheetFault). sheet_kind found.kind) same ∙ sym has.3)
     (has'.4 ∙ ap (λ (found : SheetFault). found.at) same ∙ sym has.4)

@@ -11,6 +11,7 @@ use Rattle.rc_sheet_model.specs.Sheet.{Sheet}
 use Rattle.rc_sheet_model.specs.Printing.{printed_sheet}
 use Rattle.rc_play_model.specs.About.{about_of}
 use Rattle.rc_play_model.specs.Plan.{Plan}
+use Rattle.rc_play_model.proofs.SiteLemmas.{unwrap}
 use Rattle.rc_plan_model.specs.declared.fault.PlanKind.{PlanKind}
 use Rattle.rc_plan.specs.declared.fail.PlanFail.{PlanFail}
 use Rattle.rc_plan.specs.declared.fail.PlanFail.TheVariants as fails
@@ -36,13 +37,12 @@ use Rattle.rc_answers.specs.Reading.{Reading, IsAcceptedWith}
 use Rattle.rc_answers.specs.Note.{note_line}
 use Rattle.rc_answers.specs.Answer.{Answer, text, refused, seen, playouts_of, AreAlike, IsAnswered, HasPlanRefusal, HasAnswer, form_faulty, sheet_faulty, plan_faulty, accepted, IsAnswerTo, IsJudged, IsPlanRefusal, IsSheetText, IsTranscribed, task_of, rivalled, watched}
 use Rattle.rc_answers.proofs.OneAnswer.{alike_answers}
-use Rattle.rc_answers.proofs.Options.{some_is}
 
 -- the trees of forms of which this is the first, and of none
 pub first_tree : (forms : List Form) (form : Form) → Some form ≡ slice_get forms 0
     → (others : List Tree) × (map tree_of forms ≡ tree_of form ∷ others)
 first_tree [] form is = absurd cc
-first_tree (x ∷ forms) form is = (map tree_of forms, ap (λ form. tree_of form ∷ map tree_of forms) (sym (some_is is)))
+first_tree (x ∷ forms) form is = (map tree_of forms, ap (λ form. tree_of form ∷ map tree_of forms) (sym (unwrap _ _ is)))
 
 pub no_tree : (forms : List Form) → None ≡ slice_get forms 0 → map tree_of forms ≡ []
 no_tree [] is = refl

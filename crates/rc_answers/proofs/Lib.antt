@@ -8,7 +8,6 @@ pub mod Measured
 pub mod OneAnswer
 pub mod OneReading
 pub mod Notes
-pub mod Options
 pub mod PlanLaws
 pub mod PlayedLaws
 pub mod PlayedLemmas

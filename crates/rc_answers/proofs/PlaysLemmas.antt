@@ -23,6 +23,7 @@ use Rattle.rc_play_model.proofs.NextLemmas.{under}
 use Rattle.rc_play_model.proofs.PlayLemmas.{match_recorded}
 use Rattle.rc_play_model.proofs.StopFacts.{stops_there}
 use Rattle.rc_play_model.proofs.TurnLemmas.{turns_within}
+use Rattle.rc_play_model.proofs.SiteLemmas.{unwrap}
 use Rattle.rc_text_model.specs.HouseText.{HouseText}
 use Rattle.rc_text_model.specs.Legal.{IsRecordOfPlay, AreRecords}
 use Rattle.rc_text_model.specs.PlayedLaws.{played_text, house_in}
@@ -45,9 +46,6 @@ kept_at f each zero m (suc n) at less here =
 kept_at f each (suc k) m (suc n) at less here =
     let a = each m in
     ap (λ all. slice_get all (suc k)) (kept_first f m n a.0 a.1) ∙ kept_at f each k (m + 1) n at (omega (arith, less)) (omega (arith, here))
-
-same_some : {A : Type 0} {x y : A} → Some x ≡ Some y → x ≡ y
-same_some e = cc
 
 -- wherever items lead, a match stands at a stop
 module _ (about : About) (dealing : Dealing ℕ) where
@@ -91,7 +89,7 @@ module _ (sheet : Sheet) (plan : Plan) (well : IsWellFormed sheet) (sight : IsIn
   record_at m k at [] r here all is = absurd cc
   record_at m zero at (x ∷ records) r here all is =
       let same : m ≡ at = omega (arith, here) in
-      subst (λ n. IsRecordOfPlay about dealing_of plan n r) same (subst (IsRecordOfPlay about dealing_of plan m) (same_some is) all.0)
+      subst (λ n. IsRecordOfPlay about dealing_of plan n r) same (subst (IsRecordOfPlay about dealing_of plan m) (unwrap _ _ is) all.0)
   record_at m (suc k) at (x ∷ records) r here all is = record_at (m + 1) k at records r (omega (arith, here)) all.1 is
 
   -- how a play has ended where it stops

@@ -12,10 +12,10 @@ use Rattle.rc_play_model.proofs.MarkLemmas.{set_marked, set_other, cleared_lengt
 use Rattle.rc_table.specs.Marks.{seats_in}
 use Rattle.rc_table.specs.Laid.{Laid, relaid}
 use Rattle.rc_table.specs.Restored.{relisted}
+use Rattle.rc_table.proofs.WhereaboutLemmas.{all_cards}
 use Rattle.rc_board.specs.Undo.{ordered, marked_as, all_marked, MayMark}
 use Rattle.rc_board.specs.Past.{AreMarks}
 use Rattle.rc_board.proofs.UndoLemmas.{ComesBack, list_back, may_mark}
-use Rattle.rc_board.proofs.PiledLemmas.{ids_there}
 
 -- ONE BY ONE
 
@@ -139,7 +139,7 @@ order_comes_back shape t loc order bytes sound within same are =
     let free : Table = record { lists = t.lists; numbers = t.numbers; marks = cleared list t.marks } in
     let locations = sound.locations in
     let bare : relisted loc list (reorder loc order t) ≡ free = list_back t loc order (omega (arith, within, locations)) same in
-    let may = may_all shape t list bytes sound (ids_there shape t loc sound) are in (
+    let may = may_all shape t list bytes sound (all_cards shape t sound loc) are in (
       ap (all_marked list bytes) bare ∙ only_marks list bytes free
           ∙ ap (λ marks. record { lists = t.lists; numbers = t.numbers; marks = marks }) (marks_again t.marks list bytes are),
       (

@@ -1,13 +1,13 @@
 -- References stay where they are, and cards go.
-use Rattle.std.proofs.Common.{◌≡◌, ℕ, zero, suc, ◌<◌, ◌≤◌, true, false, List, [], ◌∷◌, length, take, map, slice_get, All, inl, inr, refl, sym, ap, ◌∙◌, subst, arith}
+use Rattle.std.proofs.Common.{◌≡◌, ℕ, zero, suc, ◌<◌, ◌≤◌, true, false, List, [], ◌∷◌, length, take, map, slice_get, All, refl, ap, ◌∙◌, subst, arith}
 use Rattle.std.specs.Prelude.{fold}
-use Rattle.std.proofs.lemmas.Bool.{cases_lt}
-use Rattle.std.proofs.lemmas.List.{get_or_past, length-map, take_all}
-use Rattle.std.proofs.lemmas.List.Elements.{All-from_recursion, All-get_or, recursion_from_All}
+use Rattle.std.proofs.lemmas.List.{length-map, take_all}
+use Rattle.std.proofs.lemmas.List.Elements.{recursion_from_All}
 use Rattle.rc_play_model.specs.Shape.{Shape, holds_references}
 use Rattle.rc_play_model.specs.Scene.{value_in}
 use Rattle.rc_play_model.specs.Table.{Table, IsSound, list_at, put_top}
 use Rattle.rc_play_model.specs.Value.{cut}
+use Rattle.rc_table.proofs.WhereaboutLemmas.{all_cards}
 use Rattle.rc_board.specs.Piled.{topped, piled}
 
 -- references stay
@@ -36,13 +36,8 @@ cards_go shape to from t are few =
     ∙ ap (topped shape to t) (take_all 512 (map (value_in false from) ids) (omega (arith, few, long)))
     ∙ held_go shape to from t ids
 
--- what stands in a location of a sound table are cards of the shape
-pub ids_there : (shape : Shape) (t : Table) (loc : ℕ) → IsSound shape t → All (λ id. id < length shape.faces) (list_at t loc)
-ids_there shape t loc sound = elim (cases_lt loc (length t.lists)) [
-  | inl within ↦ All-get_or (All (λ id. id < length shape.faces)) t.lists loc [] within sound.ids
-  | inr past ↦ subst (All (λ id. id < length shape.faces)) (sym (get_or_past t.lists loc [] past)) (All-from_recursion (λ id. id < length shape.faces) [] tt)
 ]
 
 pub sole_there : (shape : Shape) (t : Table) (loc id : ℕ) → IsSound shape t → list_at t loc ≡ id ∷ [] → id < length shape.faces
 sole_there shape t loc id sound is =
-    (recursion_from_All (λ id. id < length shape.faces) (id ∷ []) (subst (All (λ id. id < length shape.faces)) is (ids_there shape t loc sound))).0
+    (recursion_from_All (λ id. id < length shape.faces) (id ∷ []) (subst (All (λ id. id < length shape.faces)) is (all_cards shape t sound loc))).0

@@ -12,10 +12,11 @@ use Rattle.atomic_table.specs.Table.{Me, step, keeps, Allows, Splits, Joins, Fin
 use Rattle.atomic_table.proofs.Lists.{set_else}
 use Rattle.rc_model.specs.Numbers.{below}
 use Rattle.rc_deck.proofs.RangeLemmas.{below_push, below_length}
+use Rattle.rc_deck.proofs.EachLemmas.{push_each}
 use Rattle.rc_claims.specs.declared.views.PassView.{PassView}
 use Rattle.rc_claims.specs.declared.views.Limits.{Limits}
 use Rattle.rc_claims.specs.Rule.{pass_view, numbers_in, holders_in, beyond, IsIdle, HasFew, IsClaimedOnce, IsKept, Draws, behind_first, first_alone, both_views, no_view}
-use Rattle.rc_claims.proofs.ViewLemmas.{grown, shrunk, unchanged, joined_by, at-All, set-All, push-All, set-turned}
+use Rattle.rc_claims.proofs.ViewLemmas.{grown, shrunk, unchanged, joined_by, at-All, set-All, set-turned}
 
 -- one number counts where it isn't below the count
 tells : (count n : ℕ) (b : Bool) → leb count n ≡ b → (cond {A = ℕ} b 1 0 ≤ 1) × ((cond {A = ℕ} b 1 0 ≡ 1) ⊎ (n < count))
@@ -107,12 +108,12 @@ module _ (limits : Limits) (word : ℕ) (views : List PassView) (once : IsClaime
               (subst (λ l. IsPermutation l (w.holders ++ u.holders)) (take-append-drop 1 v.holders)
               (IsPermutation-append_comm (take 1 v.holders) (drop 1 v.holders)))));
           idle =
-              push-All IsIdle more u (λ none_left. refl)
-              (set-All IsIdle views id w (λ none_left. none') once.idle);
+              push_each IsIdle more u (set-All IsIdle views id w (λ none_left. none') once.idle) (λ none_left. refl);
           few =
-              push-All (HasFew limits.count) more u (omega arith)
+              push_each (HasFew limits.count) more u
               (set-All (HasFew limits.count) views id w
-              (let nothing : beyond limits.count v.numbers ≡ 0 = ap (beyond limits.count) none' in omega (arith, nothing)) once.few);
+              (let nothing : beyond limits.count v.numbers ≡ 0 = ap (beyond limits.count) none' in omega (arith, nothing)) once.few)
+              (omega arith);
         }
 
   -- a join: the other view has nothing then

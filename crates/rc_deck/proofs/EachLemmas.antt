@@ -1,6 +1,6 @@
 -- What holds of each item of lists, and of lists that are mapped.
 use Rattle.std.proofs.Common.{◌≡◌, ℕ, zero, suc, ◌≤◌, Bool, ◌||◌, List, [], ◌∷◌, ◌++◌, length, map, take, slice_get}
-use Rattle.std.proofs.Common.{None, Result, Ok, Err, OnOk, refl, ap, arith}
+use Rattle.std.proofs.Common.{None, Result, Ok, Err, OnOk, refl, ap, arith, ◌+◌}
 use Rattle.std.specs.List.{AllByRecursion, AllZip, list_any}
 
 -- what holds of each holds of each of a part
@@ -37,3 +37,15 @@ past_end (x ∷ xs) (suc i) is = let less = past_end xs i is in omega (arith, le
 pub on_ok : {A E P Q : Type 0} (result : Result A E) → OnOk result P → (P → Q) → OnOk result Q
 on_ok (Ok a) holds more = more holds
 on_ok (Err e) holds more = tt
+
+pub unmapped : {X Y : Type 0} (P : Y → Type 0) (f : X → Y) (xs : List X) → AllByRecursion P (map f xs) → AllByRecursion (λ x. P (f x)) xs
+unmapped P f [] all = tt
+unmapped P f (x ∷ xs) all = (all.0, unmapped P f xs all.1)
+
+pub at_most_each : (m n : ℕ) (points : List ℕ) → m ≤ n → AllByRecursion (λ p. p ≤ m) points → AllByRecursion (λ p. p ≤ n) points
+at_most_each m n [] le all = tt
+at_most_each m n (p ∷ points) le all = (omega (arith, all.0), at_most_each m n points le all.1)
+
+pub push_each : {X : Type 0} (P : X → Type 0) (xs : List X) (x : X) → AllByRecursion P xs → P x → AllByRecursion P (xs ++ x ∷ [])
+push_each P [] x a p = (p, tt)
+push_each P (y ∷ xs) x a p = (a.0, push_each P xs x a.1 p)

@@ -173,10 +173,6 @@ noted_then (Ok (LegalWith bounds)) (Err f) notes P e on = absurd cc
 noted_then (Ok (IllegalThere line why)) judged notes P e on = tt
 noted_then (Err e') judged notes P e on = tt
 
-pub on_then : {X E : Type 0} (r : Result X E) {A B : Type 0} → (A → B) → OnOk r A → OnOk r B
-on_then (Ok x) f a = f a
-on_then (Err e) f a = tt
-
 -- a text without marks is legal where what it tells is
 pub only_legal : (about : About) (plan : Plan) (n : PureNamed) {P : Type 0} → (P ↔ IsLegalText about dealing_of plan false n) → (P ↔ IsLegal about dealing_of plan n.text)
 only_legal about plan n iff = ((λ p. (iff.0 p).0), (λ is. iff.1 (is, tt)))

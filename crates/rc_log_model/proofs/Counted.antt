@@ -5,6 +5,7 @@ use Rattle.std.specs.List.{AllByRecursion, AllZip}
 use Rattle.std.proofs.lemmas.List.Elements.{recursion_from_All}
 use Rattle.rc_model.specs.Clamp.{IsWithinClamp}
 use Rattle.rc_model.specs.Transcript.{Pick}
+use Rattle.rc_deck.proofs.EachLemmas.{at_most_each}
 use Rattle.rc_sheet_model.specs.WellFormed.{owner_count}
 use Rattle.rc_play_model.specs.Control.{Frame}
 use Rattle.rc_play_model.specs.About.{About}
@@ -34,10 +35,6 @@ use Rattle.rc_log_model.proofs.Sighted.{table_counts}
 named_few : (named : Option ℕ) (count : ℕ) → count ≤ 8 → ((n : ℕ) → named ≡ Some n → n < count) → IfSome named (λ n. n ≤ 255)
 named_few None count few less = tt
 named_few (Some n) count few less = let member = less n refl in omega (arith, member, few)
-
-raised : (n k : ℕ) → n ≤ k → (xs : List ℕ) → AllByRecursion (λ x. x ≤ n) xs → AllByRecursion (λ x. x ≤ k) xs
-raised n k most [] all = tt
-raised n k most (x ∷ xs) all = (let le = all.0 in omega (arith, le, most), raised n k most xs all.1)
 
 -- a choice is made at a decision
 decided : (about : About) (p : Pick) (stop : Stop) (c : Config) → IsMade about p stop c → (seat : ℕ) × (site : ℕ) × (stop ≡ decide seat site)
@@ -90,7 +87,7 @@ module _ (about : About) (is : IsWatchable about) (dealing : Dealing ℕ) (order
         turn = turn;
         site = subst IsLogSite (sym fits.stands) (omega (arith, there, sites));
         each_made = fits.seats ∙ sym (ap (λ shape. shape.players) is.shape);
-        made = raised control.turn largest_word turn control.made (recursion_from_All (λ n. n ≤ control.turn) control.made fits.counts);
+        made = at_most_each control.turn largest_word control.made turn (recursion_from_All (λ n. n ≤ control.turn) control.made fits.counts);
         few_frames = omega (arith, few);
         frames = frames_count (around (left_at about.sheet site)) control.frames fits.frames (recursion_from_All HasFrameKey control.frames keys.0.frames);
         each_number = sound.amounts;

@@ -5,6 +5,7 @@ use Rattle.std.proofs.lemmas.Bool.{cond-true, cond-false, lt-ltb, le-ltb, eq-eqb
 use Rattle.std.proofs.lemmas.List.Sums.{sum_by-cons, count_by-le-length, fails_before_first, passes_at_first}
 use Rattle.std.proofs.lemmas.List.FromFn.{length-range_with_len}
 use Rattle.rc_model.specs.Transcript.{Record}
+use Rattle.rc_deck.proofs.EachLemmas.{at_most_each}
 use Rattle.rc_play_model.specs.Plan.{Plan}
 use Rattle.rc_play_model.specs.House.{ahead}
 use Rattle.rc_measure.specs.Leads.{leader, leads_in, changes_at}
@@ -27,13 +28,9 @@ ahead_of_none (n ∷ points) most (suc j) none there less =
 abbrev HasMost : List ℕ → ℕ → Type 0
 HasMost points k = (k < length points) × AllByRecursion (λ n. n ≤ get_or points k 0) points
 
-larger : (m n : ℕ) (points : List ℕ) → m ≤ n → AllByRecursion (λ p. p ≤ m) points → AllByRecursion (λ p. p ≤ n) points
-larger m n [] le all = tt
-larger m n (p ∷ points) le all = (omega (arith, all.0), larger m n points le all.1)
-
 most_case : (n : ℕ) (points : List ℕ) (k : ℕ) → HasMost points k → (n < get_or points k 0) ⊎ (get_or points k 0 ≤ n) → (k : ℕ) × HasMost (n ∷ points) k
 most_case n points k has (inl less) = (suc k, (omega (arith, has.0), (omega arith, has.1)))
-most_case n points k has (inr le) = (0, (omega arith, (omega arith, larger (get_or points k 0) n points le has.1)))
+most_case n points k has (inr le) = (0, (omega arith, (omega arith, at_most_each (get_or points k 0) n points le has.1)))
 
 most_of : (n : ℕ) (points : List ℕ) → (k : ℕ) × HasMost (n ∷ points) k
 most_of n [] = (0, (omega arith, (omega arith, tt)))

@@ -39,7 +39,7 @@ sum_more f g xs k d lt =
     ap (λ ys. sum_by f (map g ys)) (take_more xs k d lt) ∙ ap (sum_by f) (map-append g (take k xs) (get_or xs k d ∷ []))
     ∙ sum_by_push f (map g (take k xs)) (g (get_or xs k d))
 
-summed_map : {X Y : Type 0} (f : Y → ℕ) (g : X → Y) (xs : List X) → sum_by f (map g xs) ≡ sum_by (λ x. f (g x)) xs
+pub summed_map : {X Y : Type 0} (f : Y → ℕ) (g : X → Y) (xs : List X) → sum_by f (map g xs) ≡ sum_by (λ x. f (g x)) xs
 summed_map f g [] = refl
 summed_map f g (x ∷ xs) =
     sum_by-cons f (g x) (map g xs) ∙ ap (λ n. f (g x) + n) (summed_map f g xs) ∙ sym (sum_by-cons (λ x. f (g x)) x xs)
@@ -70,7 +70,7 @@ repeated_more : {X : Type 0} (x : X) (n : ℕ) → replicate (suc n) x ≡ repli
 repeated_more x zero = refl
 repeated_more x (suc n) = ap (λ xs. x ∷ xs) (repeated_more x n)
 
-taken_mapped : {X Y : Type 0} (g : X → Y) (xs : List X) (k : ℕ) → map g (take k xs) ≡ take k (map g xs)
+pub taken_mapped : {X Y : Type 0} (g : X → Y) (xs : List X) (k : ℕ) → map g (take k xs) ≡ take k (map g xs)
 taken_mapped g xs zero = refl
 taken_mapped g [] (suc k) = refl
 taken_mapped g (x ∷ xs) (suc k) = ap (λ ys. g x ∷ ys) (taken_mapped g xs k)

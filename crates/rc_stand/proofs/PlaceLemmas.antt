@@ -18,13 +18,11 @@ use Rattle.rc_stand.specs.Shallow.{AreShallow}
 use Rattle.rc_stand.specs.Flat.{Flat, config_of, IsInPlay}
 use Rattle.rc_stand.proofs.ShallowLemmas.{step_shallow, choice_shallow}
 use Rattle.rc_stand.proofs.StepCases.{moved}
+use Rattle.rc_stand.proofs.SitePlaceLemmas.{one_more}
 
 -- STAGES
 
 module _ (code : List Instruction) where
-  one_more : (outer : List ℕ) (place : ℕ) → AreStages code outer → IsStageAt code place → AreStages code (outer ++ place ∷ [])
-  one_more [] place are is = (is, tt)
-  one_more (p ∷ outer) place are is = (are.0, one_more outer place are.1 is)
 
   one_less : (outer : List ℕ) → AreStages code outer → AreStages code (but_last outer)
   one_less [] are = tt

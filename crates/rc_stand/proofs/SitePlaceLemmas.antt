@@ -113,7 +113,7 @@ begin_behind code [] are = tt
 begin_behind code (place ∷ inner) are =
     (begins code place (slice_get code place) refl are.0, begin_behind code inner (classed_of (behind_at code place) (left_behind code inner) are.1))
 
-one_more : (code : List Instruction) (outer : List ℕ) (place : ℕ) → AreStages code outer → IsStageAt code place → AreStages code (outer ++ place ∷ [])
+pub one_more : (code : List Instruction) (outer : List ℕ) (place : ℕ) → AreStages code outer → IsStageAt code place → AreStages code (outer ++ place ∷ [])
 one_more code [] place are is = (is, tt)
 one_more code (p ∷ outer) place are is = (are.0, one_more code outer place are.1 is)
 

@@ -402,7 +402,7 @@ module _ (about : About) (dealing : ℕ → Dealing ℕ) (plan : Plan) where
       let own = uses.0 in
       λ i. own i ∷ more i
 
-  one_each : (m : ℕ) (at : Option (Stopped ℕ)) (picks : List Pick) → length (marks_from about dealing plan m at picks) ≡ length picks
+  pub one_each : (m : ℕ) (at : Option (Stopped ℕ)) (picks : List Pick) → length (marks_from about dealing plan m at picks) ≡ length picks
   one_each m at [] = refl
   one_each m at (p ∷ picks) = omega (arith, one_each m (next_stop about dealing plan m at p) picks)
 

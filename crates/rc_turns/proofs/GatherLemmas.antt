@@ -12,7 +12,7 @@ use Rattle.rc_match.specs.declared.playing.Played.{Played}
 use Rattle.rc_redraw.specs.Counts.{Counts}
 use Rattle.rc_match.specs.Asks.{asks_of}
 use Rattle.atomic_table.specs.Seated.{TableId}
-use Rattle.rc_deck.proofs.EachLemmas.{append_each}
+use Rattle.rc_deck.proofs.EachLemmas.{append_each, unmapped}
 use Rattle.rc_claims.specs.Claims.{Pass, fresh, joined}
 use Rattle.rc_turns.specs.declared.turn.Worker.{Worker}
 use Rattle.rc_turns.specs.declared.turn.Turn.{Turn}
@@ -164,14 +164,9 @@ module _ {C : Type 0} (name : C → ℕ) (counts : C → Counts) (noted : Bool) 
   own_turns table (w ∷ ws) (Ok turn ∷ rs) own are = (are.0.own ∙ own.0, own_turns table ws rs own.1 are.1)
   own_turns table (w ∷ ws) (Err lack ∷ rs) own are = (tt, own_turns table ws rs own.1 are)
 
--- what holds of each image
-unmapped : {X Y : Type 0} (f : X → Y) (P : Y → Type 0) (xs : List X) → AllByRecursion P (map f xs) → AllByRecursion (λ x. P (f x)) xs
-unmapped f P [] all = tt
-unmapped f P (x ∷ xs) all = (all.0, unmapped f P xs all.1)
-
 pub all_unmapped : {X Y : Type 0} (f : X → Y) (P : Y → Type 0) (xs : List X) (ys : List Y) → map f xs ≡ ys → All P ys → All (λ x. P (f x)) xs
 all_unmapped f P xs ys is all =
-    All-from_recursion (λ x. P (f x)) xs (unmapped f P xs (subst (AllByRecursion P) (sym is) (recursion_from_All P ys all)))
+    All-from_recursion (λ x. P (f x)) xs (unmapped P f xs (subst (AllByRecursion P) (sym is) (recursion_from_All P ys all)))
 
 -- fresh passes
 module _ {C : Type 0} (table : TableId) (workers : List (Worker C)) (holders : List ℕ) (is : map (λ (w : Worker C). w.pass) workers ≡ map (fresh table) holders) where
@@ -181,7 +176,7 @@ module _ {C : Type 0} (table : TableId) (workers : List (Worker C)) (holders : L
 
   workers_fresh : AllByRecursion (λ (w : Worker C). (w.pass.table ≡ table) × (w.pass.numbers ≡ [])) workers
   workers_fresh =
-      unmapped (λ (w : Worker C). w.pass) (λ (p : Pass). (p.table ≡ table) × (p.numbers ≡ [])) workers
+      unmapped (λ (p : Pass). (p.table ≡ table) × (p.numbers ≡ [])) (λ (w : Worker C). w.pass) workers
       (subst (AllByRecursion (λ (p : Pass). (p.table ≡ table) × (p.numbers ≡ []))) (sym is) (all_fresh holders))
 
   pub fresh_workers : All (λ (w : Worker C). (w.pass.table ≡ table) × (w.pass.numbers ≡ [])) workers

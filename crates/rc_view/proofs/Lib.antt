@@ -1,5 +1,4 @@
 pub mod SightLemmas
-pub mod ShortLemmas
 pub mod Telling
 pub mod KeyLemmas
 pub mod InShape

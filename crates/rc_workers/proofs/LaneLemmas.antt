@@ -3,9 +3,10 @@ use Rattle.std.proofs.Common.{◌≡◌, ℕ, zero, suc, ◌+◌, ◌<◌, List,
 use Rattle.std.specs.List.{AllByRecursion, sum_by}
 use Rattle.std.proofs.lemmas.List.{map-append, append_assoc}
 use Rattle.std.proofs.lemmas.List.Elements.{All-from_recursion, recursion_from_All}
-use Rattle.std.proofs.lemmas.List.Sums.{sum_by-cons, sum_by_push}
+use Rattle.std.proofs.lemmas.List.Sums.{sum_by_push}
 use Rattle.rc_model.specs.Numbers.{below}
 use Rattle.rc_deck.proofs.RangeLemmas.{below_push}
+use Rattle.rc_rules.proofs.ShapeLemmas.{summed_map}
 use Rattle.rc_redraw.specs.Counts.{Counts}
 use Rattle.rc_cache.specs.Memos.{shared_counts}
 use Rattle.rc_cache.specs.Sums.{Lane, idle, idle_lanes}
@@ -32,12 +33,6 @@ moved_over f done more left rest all x y pushed split made so_far =
     ap (λ l. map f l ++ rest) pushed ∙ ap (λ l. l ++ rest) (map-append f done (x ∷ [])) ∙ append_assoc (map f done) (f x ∷ []) rest
     ∙ ap (λ z. map f done ++ z ∷ rest) made ∙ ap (λ l. map f done ++ l) (sym split) ∙ so_far
 
-sum_map : {X Y : Type 0} (f : X → Y) (h : Y → ℕ) (xs : List X) → sum_by h (map f xs) ≡ sum_by (λ x. h (f x)) xs
-sum_map f h [] = refl
-sum_map f h (x ∷ xs) =
-    let rest = sum_map f h xs in
-    sum_by-cons h (f x) (map f xs) ∙ omega (arith, rest) ∙ sym (sum_by-cons (λ y. h (f y)) x xs)
-
 -- one lane more
 one_more : (n : ℕ) → idle_lanes (suc n) ≡ idle_lanes n ++ idle n ∷ []
 one_more n =
@@ -60,20 +55,20 @@ idle_count (suc n) =
 -- what such lanes rose by
 module _ (looks workers : ℕ) (lanes : List Lane) (rise : RiseTogether looks (map shared_counts (idle_lanes workers)) (map shared_counts lanes)) where
   counted : (h : Counts → ℕ) → ((k : ℕ) → h (shared_counts (idle k)) ≡ 0) → sum_by h (map shared_counts (idle_lanes workers)) ≡ 0
-  counted h none = sum_map shared_counts h (idle_lanes workers) ∙ idle_sum (λ l. h (shared_counts l)) none workers
+  counted h none = summed_map h shared_counts (idle_lanes workers) ∙ idle_sum (λ l. h (shared_counts l)) none workers
 
   pub all_looked : lane.looks_in lanes ≡ looks
   all_looked =
       let before = counted (λ c. c.looks) (λ k. refl) in
-      let now = sum_map shared_counts (λ c. c.looks) lanes in
+      let now = summed_map (λ c. c.looks) shared_counts lanes in
       omega (arith, before, now, rise.looked)
 
   pub all_answered : lane.keeps_in lanes + lane.hits_in lanes ≡ looks
   all_answered =
       let hits = counted (λ c. c.hits) (λ k. refl) in
       let keeps = counted (λ c. c.keeps) (λ k. refl) in
-      let hits' = sum_map shared_counts (λ c. c.hits) lanes in
-      let keeps' = sum_map shared_counts (λ c. c.keeps) lanes in
+      let hits' = summed_map (λ c. c.hits) shared_counts lanes in
+      let keeps' = summed_map (λ c. c.keeps) shared_counts lanes in
       omega (arith, hits, keeps, hits', keeps', rise.kept)
 
 -- where nothing hits without a keep, not all looks hit

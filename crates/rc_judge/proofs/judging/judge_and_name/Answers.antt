@@ -1,4 +1,5 @@
 use Rattle.std.proofs.Common.{◌≡◌, false, map, refl, subst, ap}
+use Rattle.rc_deck.proofs.EachLemmas.{on_ok}
 use Rattle.rc_play_model.specs.Keyed.{dealing_of}
 use Rattle.rc_text_model.specs.HouseText.{unmarked}
 use Rattle.rc_text_model.specs.Judged.{first_illegal}
@@ -10,7 +11,7 @@ use Rattle.rc_text.specs.House.{house_seen}
 use Rattle.rc_text.specs.BoundSeen.{all_bounds, AreFor}
 use Rattle.rc_judge.specs.Seen.{Finds}
 use Rattle.rc_judge.proofs.Fits.{noted_all, noted_fits}
-use Rattle.rc_judge.proofs.Steps.{named_legal, noted_then, on_then, only_legal}
+use Rattle.rc_judge.proofs.Steps.{named_legal, noted_then, only_legal}
 use Rattle.rc_judge.proofs.judging.judge_and_name.Goals as goal
 
 pub returns-clause-first : goal.returns-clause-first
@@ -40,8 +41,9 @@ returns-clause-marks c =
     let text = house_seen c.args.text.now in
     let notes = c.text_along-judged.new.margin.before in
     noted_then c.named_by.result c.text_along-judged.result notes (λ bounds. all_bounds bounds.items ≡ bounds_of about plan text) c.named_by.ensures.notes
-    (on_then c.text_along-judged.result (noted_all about dealing_of plan notes.items c.new-notes.result.before.items 0 text.matches c.new-notes.ensures.before)
-    (c.text_along-judged.ensures.noted refl (ap (map bounds_seen) c.new-notes.ensures.here)))
+    (on_ok c.text_along-judged.result
+    (c.text_along-judged.ensures.noted refl (ap (map bounds_seen) c.new-notes.ensures.here))
+    (noted_all about dealing_of plan notes.items c.new-notes.result.before.items 0 text.matches c.new-notes.ensures.before))
 
 pub returns-clause-fits : goal.returns-clause-fits
 returns-clause-fits c =
@@ -50,5 +52,6 @@ returns-clause-fits c =
     let matches = c.args.text.now.matches.items in
     let notes = c.text_along-judged.new.margin.before in
     noted_then c.named_by.result c.text_along-judged.result notes (λ bounds. AreFor matches bounds.items) c.named_by.ensures.notes
-    (on_then c.text_along-judged.result (noted_fits about dealing_of plan notes.items c.new-notes.result.before.items 0 matches c.new-notes.ensures.before)
-    (c.text_along-judged.ensures.noted refl (ap (map bounds_seen) c.new-notes.ensures.here)))
+    (on_ok c.text_along-judged.result
+    (c.text_along-judged.ensures.noted refl (ap (map bounds_seen) c.new-notes.ensures.here))
+    (noted_fits about dealing_of plan notes.items c.new-notes.result.before.items 0 matches c.new-notes.ensures.before))
