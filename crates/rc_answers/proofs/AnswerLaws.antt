@@ -42,7 +42,8 @@ use Rattle.rc_answers.proofs.OneAnswer.{alike_answers}
 pub first_tree : (forms : List Form) (form : Form) → Some form ≡ slice_get forms 0
     → (others : List Tree) × (map tree_of forms ≡ tree_of form ∷ others)
 first_tree [] form is = absurd cc
-first_tree (x ∷ forms) form is = (map tree_of forms, ap (λ form. tree_of form ∷ map tree_of forms) (sym (unwrap _ _ is)))
+first_tree (x ∷ forms) form is =
+    (map tree_of forms, ap (λ form. tree_of form ∷ map tree_of forms) (sym (unwrap _ _ is)))
 
 pub no_tree : (forms : List Form) → None ≡ slice_get forms 0 → map tree_of forms ≡ []
 no_tree [] is = refl

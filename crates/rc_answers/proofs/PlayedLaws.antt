@@ -80,7 +80,8 @@ answered_legal named source read is = by read.lists read.spelled is
         answered_behind judging.Check named source form others read.rest is.0 is.2.0 spelled is.1 is.2.1 is.2.2
 
 -- the bytes of a text
-pub same_bytes : (bytes bytes' note note' : List ℕ) (playouts playouts' : ℕ) → text bytes note playouts ≡ text bytes' note' playouts' → bytes ≡ bytes'
+pub same_bytes : (bytes bytes' note note' : List ℕ) (playouts playouts' : ℕ) →
+    text bytes note playouts ≡ text bytes' note' playouts' → bytes ≡ bytes'
 same_bytes bytes bytes' note note' playouts playouts' same = cc
 
 -- where two lists are wanted, and there is a second, there is no third

@@ -18,7 +18,8 @@ below_push n =
 pub below_length : (n : ℕ) → length (below n) ≡ n
 below_length n = length-range_with_len 0 n
 
-pub at_range : {X : Type 0} (f : ℕ → X) (a n k : ℕ) (d : X) → k < n → get_or (map f (range_with_len a n)) k d ≡ f (a + k)
+pub at_range : {X : Type 0} (f : ℕ → X) (a n k : ℕ) (d : X) → k < n →
+    get_or (map f (range_with_len a n)) k d ≡ f (a + k)
 at_range f a zero k d lt = absurd (omega arith)
 at_range f a (suc n) zero d lt = let same : a ≡ a + 0 = omega arith in ap f same
 at_range f a (suc n) (suc k) d lt =

@@ -8,11 +8,15 @@ use Rattle.rc_form.specs.declared.form.Form.TheVariants.{Atom, rolls-Atom, List 
 use Rattle.rc_form.specs.declared.form.Form.TheFolds.{fold-roll-Form}
 use Rattle.rc_form.specs.Form.{tree_step, tree_of, atom_tree, list_tree, trees_of, packed}
 
-pub tree_of_atom : (form : Form) (bytes : List ℕ) (span : Span) → form ≡ Atom bytes span → tree_of form ≡ atom_tree bytes span
-tree_of_atom form bytes span is = ap tree_of is ∙ ap tree_of (sym (rolls-Atom bytes span)) ∙ fold-roll-Form Tree tree_step _
+pub tree_of_atom : (form : Form) (bytes : List ℕ) (span : Span) → form ≡ Atom bytes span →
+    tree_of form ≡ atom_tree bytes span
+tree_of_atom form bytes span is =
+    ap tree_of is ∙ ap tree_of (sym (rolls-Atom bytes span)) ∙ fold-roll-Form Tree tree_step _
 
-pub tree_of_list : (form : Form) (items : Vec Form Global) (span : Span) → form ≡ ListOf items span → tree_of form ≡ list_tree items span
-tree_of_list form items span is = ap tree_of is ∙ ap tree_of (sym (rolls-List items span)) ∙ fold-roll-Form Tree tree_step _
+pub tree_of_list : (form : Form) (items : Vec Form Global) (span : Span) → form ≡ ListOf items span →
+    tree_of form ≡ list_tree items span
+tree_of_list form items span is =
+    ap tree_of is ∙ ap tree_of (sym (rolls-List items span)) ∙ fold-roll-Form Tree tree_step _
 
 -- as many trees as forms
 pub count_packed : (forms : List Form) → count (packed (trees_of forms)) ≡ length forms

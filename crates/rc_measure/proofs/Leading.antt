@@ -30,7 +30,8 @@ HasMost points k = (k < length points) × AllByRecursion (λ n. n ≤ get_or poi
 
 most_case : (n : ℕ) (points : List ℕ) (k : ℕ) → HasMost points k → (n < get_or points k 0) ⊎ (get_or points k 0 ≤ n) → (k : ℕ) × HasMost (n ∷ points) k
 most_case n points k has (inl less) = (suc k, (omega (arith, has.0), (omega arith, has.1)))
-most_case n points k has (inr le) = (0, (omega arith, (omega arith, at_most_each (get_or points k 0) n points le has.1)))
+most_case n points k has (inr le) =
+    (0, (omega arith, (omega arith, at_most_each (get_or points k 0) n points le has.1)))
 
 most_of : (n : ℕ) (points : List ℕ) → (k : ℕ) × HasMost (n ∷ points) k
 most_of n [] = (0, (omega arith, (omega arith, tt)))

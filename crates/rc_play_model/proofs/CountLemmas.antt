@@ -4,7 +4,8 @@ use Rattle.std.specs.List.{AllByRecursion}
 use Rattle.std.proofs.lemmas.List.Elements.{All-from_recursion, recursion_from_All}
 
 -- counts of decisions where one turn more is counted
-pub one_turn_more : (turn : ℕ) (made : List ℕ) → AllByRecursion (λ n. n ≤ turn) made → AllByRecursion (λ n. n ≤ turn + 1) made
+pub one_turn_more : (turn : ℕ) (made : List ℕ) → AllByRecursion (λ n. n ≤ turn) made →
+    AllByRecursion (λ n. n ≤ turn + 1) made
 one_turn_more turn [] all = tt
 one_turn_more turn (n ∷ made) all = let le = all.0 in (omega (arith, le), one_turn_more turn made all.1)
 

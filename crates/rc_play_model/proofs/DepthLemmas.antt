@@ -66,12 +66,14 @@ few_stages sheet formed = let h = formed.shallow in in_form h.0 h.1 h.2 where
       items_shallow (sheet_naming sheet) _ 63 sheet.items parts stands.1.1.1 open'.1.1.1
 
 -- an item of a list is no deeper than the list
-pub nth_depth : (items : SheetItems) (n : ℕ) (i : SheetItem) → slice_get (item_list items) n ≡ Some i → item_depth i ≤ items_depth items
+pub nth_depth : (items : SheetItems) (n : ℕ) (i : SheetItem) → slice_get (item_list items) n ≡ Some i →
+    item_depth i ≤ items_depth items
 nth_depth no_item n i is = absurd (cc)
 nth_depth (item j items) zero i is = let e : item_depth j ≡ item_depth i = ap item_depth (let e : j ≡ i = cc in e) in omega (arith, e)
 nth_depth (item j items) (suc n) i is = let h = nth_depth items n i is in omega (arith, h)
 
-pub none_within : (outer : List ℕ) (behind : List Part) (n : ℕ) (i : SheetItem) → slice_get (within [] outer behind).0 n ≡ Some i → ⊥
+pub none_within : (outer : List ℕ) (behind : List Part) (n : ℕ) (i : SheetItem) →
+    slice_get (within [] outer behind).0 n ≡ Some i → ⊥
 none_within [] behind n i is = absurd (cc)
 none_within (k ∷ outer) behind n i is = none_within outer _ n i is
 

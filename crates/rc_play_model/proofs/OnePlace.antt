@@ -110,6 +110,7 @@ module _ (shape : Shape) (table : Table) (sound : IsSound shape table) where
       )
 
 -- the innermost variable
-pub innermost_player : (vars : Vars) (player : ℕ) → player_of (slice_get (vars ++ player_bound player ∷ []) (length vars)) ≡ player
+pub innermost_player : (vars : Vars) (player : ℕ) →
+    player_of (slice_get (vars ++ player_bound player ∷ []) (length vars)) ≡ player
 innermost_player [] player = refl
 innermost_player (bind ∷ vars) player = innermost_player vars player

@@ -16,19 +16,23 @@ use Rattle.rc_state.specs.Point.{point_of}
 use Rattle.rc_state.specs.Leads.{LeadsTo}
 
 -- an effect that shuffles nothing
-pub led : (context : Context) (dealing : Dealing ℕ) (state : ℕ) (e f : Effect) (before after : Laid) (frames frames' : List Frame) → e ≡ f →
-    LeadsTo context (effect_seen f) before frames after frames' →
-    does_one context.about.now dealing context.scope.now (effect_seen e) (point_of before frames state) ≡ point_of after frames' state
+pub led : (context : Context) (dealing : Dealing ℕ) (state : ℕ) (e f : Effect) (before after : Laid)
+    (frames frames' : List Frame) → e ≡ f → LeadsTo context (effect_seen f) before frames after frames' →
+    does_one context.about.now dealing context.scope.now (effect_seen e) (point_of before frames state)
+    ≡ point_of after frames' state
 led context dealing state e f before after frames frames' is leads =
-    ap (λ e. does_one context.about.now dealing context.scope.now (effect_seen e) (point_of before frames state)) is ∙ leads dealing state
+    ap (λ e. does_one context.about.now dealing context.scope.now (effect_seen e) (point_of before frames state)) is
+    ∙ leads dealing state
 
 module _ {A : Type 0} (f : A → Bind CardValue → A) where
   players_on : (a n k : ℕ) (now mid last : A) → k < n → f now (player_bound (a + k)) ≡ mid →
-      fold f now (map (λ n. player_bound n) (drop k (range_with_len a n))) ≡ last → fold f mid (map (λ n. player_bound n) (drop (k + 1) (range_with_len a n))) ≡ last
+      fold f now (map (λ n. player_bound n) (drop k (range_with_len a n))) ≡ last →
+      fold f mid (map (λ n. player_bound n) (drop (k + 1) (range_with_len a n))) ≡ last
   players_on a zero k now mid last lt one rest = absurd (omega (arith, lt))
   players_on a (suc n) zero now mid last lt one rest =
       let here : a ≡ a + 0 = omega arith in
-      ap (λ p. fold f p (map (λ n. player_bound n) (range_with_len (a + 1) n))) (sym one ∙ ap (λ k. f now (player_bound k)) (sym here)) ∙ rest
+      ap (λ p. fold f p (map (λ n. player_bound n) (range_with_len (a + 1) n)))
+      (sym one ∙ ap (λ k. f now (player_bound k)) (sym here)) ∙ rest
   players_on a (suc n) (suc k) now mid last lt one rest =
       let next : a + 1 + k ≡ a + suc k = omega arith in
       let two : suc k + 1 ≡ suc (k + 1) = omega arith in
@@ -37,9 +41,11 @@ module _ {A : Type 0} (f : A → Bind CardValue → A) where
 
   -- one player more
   pub one_player : (n k : ℕ) (now mid last : A) → k < n → f now (player_bound k) ≡ mid →
-      fold f now (map (λ n. player_bound n) (drop k (below n))) ≡ last → fold f mid (map (λ n. player_bound n) (drop (k + 1) (below n))) ≡ last
+      fold f now (map (λ n. player_bound n) (drop k (below n))) ≡ last →
+      fold f mid (map (λ n. player_bound n) (drop (k + 1) (below n))) ≡ last
   one_player n k now mid last lt one rest =
-      let here : 0 + k ≡ k = omega arith in players_on 0 n k now mid last lt (ap (λ k. f now (player_bound k)) here ∙ one) rest
+      let here : 0 + k ≡ k = omega arith in
+      players_on 0 n k now mid last lt (ap (λ k. f now (player_bound k)) here ∙ one) rest
 
   none_left : (ns : List ℕ) (k : ℕ) → length ns ≤ k → drop k ns ≡ []
   none_left [] zero le = refl
@@ -49,4 +55,6 @@ module _ {A : Type 0} (f : A → Bind CardValue → A) where
 
   -- no player is left
   pub no_player : (n k : ℕ) (now : A) → n ≤ k → fold f now (map (λ n. player_bound n) (drop k (below n))) ≡ now
-  no_player n k now le = ap (λ ns. fold f now (map (λ n. player_bound n) ns)) (none_left (below n) k (omega (arith, le, length-range_with_len 0 n)))
+  no_player n k now le =
+      ap (λ ns. fold f now (map (λ n. player_bound n) ns))
+      (none_left (below n) k (omega (arith, le, length-range_with_len 0 n)))

@@ -37,7 +37,8 @@ module _ (sheet : Sheet) where
       e ≡ get_or es i e → IsEffectUnder sheet vars (effect_seen e)
   effect_under vars es are i e lt is = (are.0, are.1, are.2, each_effect are.0 es are.3 i e lt is)
 
-  pub each_alt : (around : Around) (alts : List Alt) → AreAlts sheet around (alts_seen alts) → (i : ℕ) (alt : Alt) → i < length alts → alt ≡ get_or alts i alt →
+  pub each_alt : (around : Around) (alts : List Alt) → AreAlts sheet around (alts_seen alts) → (i : ℕ) (alt : Alt) →
+      i < length alts → alt ≡ get_or alts i alt →
       IsAlt sheet around (alt_seen alt)
   each_alt around [] are i alt lt is = absurd (omega (arith, lt))
   each_alt around (a ∷ alts) are zero alt lt is = subst (λ alt. IsAlt sheet around (alt_seen alt)) (sym is) are.0

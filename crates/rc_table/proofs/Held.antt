@@ -25,7 +25,8 @@ cards_in [] lists = []
 cards_in (place ∷ places) [] = []
 cards_in (place ∷ places) (list ∷ lists) = cond (is_mem place.kind) [] list ++ cards_in places lists
 
-pub times_here : (id : ℕ) (m : Bool) (list : List ℕ) → cond m 0 (count_by (λ other. other == id) list) ≡ passing (same id) (cond m [] list)
+pub times_here : (id : ℕ) (m : Bool) (list : List ℕ) →
+    cond m 0 (count_by (λ other. other == id) list) ≡ passing (same id) (cond m [] list)
 times_here id true list = refl
 times_here id false list = sym (passing-is (same id) list)
 
@@ -37,7 +38,8 @@ times_counted id (place ∷ places) (list ∷ lists) =
     ∙ ap₂ ◌+◌ (times_here id (is_mem place.kind) list) (times_counted id places lists)
     ∙ sym (passing-append (same id) (cond (is_mem place.kind) [] list) (cards_in places lists))
 
-pub each_here : (n : ℕ) (m : Bool) (list : List ℕ) → All (λ id. id < n) list → AllByRecursion (λ id. id < n) (cond m [] list)
+pub each_here : (n : ℕ) (m : Bool) (list : List ℕ) → All (λ id. id < n) list →
+    AllByRecursion (λ id. id < n) (cond m [] list)
 each_here n true list all = tt
 each_here n false list all = recursion_from_All (λ id. id < n) list all
 

@@ -37,7 +37,8 @@ begun_elsewhere : (home : List ℕ) (n loc : ℕ) → (slice_index home n ≡ lo
 begun_elsewhere home n loc never =
     let h = slice_index home n in
     begun_push home n loc
-    ∙ ap (λ b. begun home n loc ++ cond b (n ∷ []) []) (differs h loc (h == loc) refl never) ∙ append-nil (begun home n loc)
+    ∙ ap (λ b. begun home n loc ++ cond b (n ∷ []) []) (differs h loc (h == loc) refl never)
+    ∙ append-nil (begun home n loc)
 
 past : (home : List ℕ) (n a count : ℕ) → slice_index home n < a →
     map (begun home (n + 1)) (range_with_len a count) ≡ map (begun home n) (range_with_len a count)
