@@ -1,19 +1,8 @@
--- The codes of a test and of an alternative, by which the logic tells them apart: those of the number of cards for which the test
--- holds, and of a choice with this alternative alone.
+-- The code of an alternative, by which the logic tells it apart: that of a choice with this alternative alone.
 use Rattle.std.specs.Prelude.{[], ◌∷◌, refl}
 use Rattle.std.specs.Coded.{Coded, code_by}
-use Rattle.rc_sheet_model.specs.Sheet.{group_var, filtered, IntExpr, size_of, Test, and_of, no_test, Alt, do_alt, no_effect, choice, SheetItems, no_item, item}
-use Rattle.rc_flow.specs.Codes.{coded_int, coded_items}
-
-abbrev passing : Test → IntExpr
-passing t = size_of (filtered (group_var 0) 0 t)
-
-abbrev asked_in : IntExpr → Test
-asked_in (size_of (filtered cards bound t)) = t
-asked_in other = and_of no_test
-
-abbrev pub coded_test : Coded Test
-coded_test = code_by IntExpr coded_int passing asked_in (λ t. refl)
+use Rattle.rc_sheet_model.specs.Sheet.{Alt, do_alt, no_effect, choice, SheetItems, no_item, item}
+use Rattle.rc_flow.specs.Codes.{coded_items}
 
 abbrev alone : Alt → SheetItems
 alone alt = item (choice 0 (alt ∷ [])) no_item

@@ -23,7 +23,7 @@ impl Drop for Asked {
 impl Model for Asked {
     ghost use Rattle.rc_sheet_model.specs.Sheet.{Test as PureTest};
     ghost use Rattle.rc_ast.specs.Expressions.{test_seen};
-    ghost use Rattle.rc_asked.specs.Codes.{coded_test};
+    ghost use Rattle.rc_flow.specs.Codes.{coded_test};
     ghost use Rattle.std.specs.Prelude.{◌≡◌, is_some};
     ghost use Rattle.rc_asked.specs.Meaning.{IsFlatForm};
     ghost use Rattle.rc_asked.specs.Flatness.{has_flat_form};

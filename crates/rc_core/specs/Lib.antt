@@ -1,4 +1,3 @@
-pub mod Codes
 pub mod House
 pub mod Events
 pub mod Sound

@@ -45,8 +45,7 @@ pub struct House {
 
 impl Model for House {
     ghost use Rattle.std.specs.Coded.{codes};
-    ghost use Rattle.rc_flow.specs.Codes.{sheet_codes};
-    ghost use Rattle.rc_core.specs.Codes.{part_codes};
+    ghost use Rattle.rc_flow.specs.Codes.{sheet_codes, part_codes};
     ghost use Rattle.rc_core.specs.House.{House as PureHouse};
 
     ghost Value = { PureHouse };

@@ -490,5 +490,24 @@ coded_int = code_by Gv itself of_int to_int same_int
 abbrev pub coded_items : Coded SheetItems
 coded_items = code_by Gv itself of_items to_items same_items
 
+-- what is left to run: an item is stored as a list of items, and a test as the end of a stage
+abbrev pub first_of : SheetItems → SheetItem
+first_of no_item = do_item no_effect
+first_of (item i items) = i
+
+abbrev pub end_of : SheetItem → Test
+end_of (do_item effects) = and_of no_test
+end_of (stage number class end body) = end
+end_of (choice site alts) = and_of no_test
+
+abbrev pub coded_item : Coded SheetItem
+coded_item = code_by SheetItems coded_items (λ i. item i no_item) first_of (λ _. refl)
+
+abbrev pub coded_test : Coded Test
+coded_test = code_by SheetItem coded_item (λ t. stage 0 game_class t no_item) end_of (λ _. refl)
+
+-- by which the code of a configuration is found, beside those of sheets
+pub ruleset part_codes = (coded_item, coded_test)
+
 -- by which the code of a sheet is found, and of what has sheets as parts
 pub ruleset sheet_codes = (coded_groups, coded_int, coded_items)
