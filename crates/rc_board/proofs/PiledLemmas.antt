@@ -36,8 +36,6 @@ cards_go shape to from t are few =
     ∙ ap (topped shape to t) (take_all 512 (map (value_in false from) ids) (omega (arith, few, long)))
     ∙ held_go shape to from t ids
 
-]
-
 pub sole_there : (shape : Shape) (t : Table) (loc id : ℕ) → IsSound shape t → list_at t loc ≡ id ∷ [] → id < length shape.faces
 sole_there shape t loc id sound is =
     (recursion_from_All (λ id. id < length shape.faces) (id ∷ []) (subst (All (λ id. id < length shape.faces)) is (all_cards shape t sound loc))).0
