@@ -45,22 +45,22 @@ abbrev pub is_the_variable : ℕ → CardExpr → Bool
 is_the_variable place (card_var var) = nat_eq var place
 is_the_variable place card = false
 
--- something is wished of the card of the variable at this place: a value, or the one that the top card of such a location has
-abbrev pub is_wish : ℕ → Test → Bool
-is_wish place (eq_attr a attr b attr') = is_the_variable place a && is_fixed_top b
-is_wish place (has_value card attr value) = is_the_variable place card
-is_wish place t = false
+-- a test of the card of the variable at this place: for a value, or for the one that the top card of such a location has
+abbrev pub is_card_test : ℕ → Test → Bool
+is_card_test place (eq_attr a attr b attr') = is_the_variable place a && is_fixed_top b
+is_card_test place (has_value card attr value) = is_the_variable place card
+is_card_test place t = false
 
--- whether a card of such a location is as it is wished, whether the offered one is, or such a comparison
-abbrev pub is_question : Test → Bool
-is_question (any_of domain bound t) = is_fixed_domain domain && is_wish 1 t
-is_question t = is_wish 0 t || is_fixed_comparison t
+-- whether a card of such a location passes such a test, whether the offered one does, or such a comparison
+abbrev pub is_condition : Test → Bool
+is_condition (any_of domain bound t) = is_fixed_domain domain && is_card_test 1 t
+is_condition t = is_card_test 0 t || is_fixed_comparison t
 
--- a question, or its opposite
+-- a condition, or its opposite
 abbrev pub is_part : Test → Bool
-is_part (ne t) = is_question t
-is_part (not_of t) = is_question t
-is_part t = is_question t
+is_part (ne t) = is_condition t
+is_part (not_of t) = is_condition t
+is_part t = is_condition t
 
 abbrev pub are_parts : Tests → Bool
 are_parts no_test = true

@@ -5,35 +5,36 @@ use Rattle.rc_sheet_model.specs.Lists.{tests_from}
 use Rattle.rc_ast.specs.Names.{loc_seen, num_seen}
 use Rattle.rc_asked.specs.declared.amounts.Amount.{Amount}
 use Rattle.rc_asked.specs.declared.amounts.Amount.TheVariants.{Literal, Number, Size, Worth}
-use Rattle.rc_asked.specs.declared.atoms.Atom.{Atom}
-use Rattle.rc_asked.specs.declared.atoms.Atom.TheVariants.{Compare, Same}
-use Rattle.rc_asked.specs.Meaning.{atom_meant}
+use Rattle.rc_asked.specs.declared.atoms.Comparison.{Comparison}
+use Rattle.rc_asked.specs.declared.atoms.Comparison.TheVariants.{Compare, Same}
+use Rattle.rc_asked.specs.Meaning.{comparison_meant}
 use Rattle.rc_asked.specs.declared.guards.Sense.{Sense}
 use Rattle.rc_asked.specs.declared.guards.Sense.TheVariants.{Plain, Ne, Not}
-use Rattle.rc_asked.specs.declared.guards.Wish.{Wish}
-use Rattle.rc_asked.specs.declared.guards.Wish.TheVariants.{Value, Against}
-use Rattle.rc_asked.specs.declared.guards.Question.{Question}
-use Rattle.rc_asked.specs.declared.guards.Question.TheVariants.{Known, Wished, Some}
-use Rattle.rc_asked.specs.declared.guards.Part.{Part}
+use Rattle.rc_asked.specs.declared.guards.CardTest.{CardTest}
+use Rattle.rc_asked.specs.declared.guards.CardTest.TheVariants.{Value, Against}
+use Rattle.rc_asked.specs.declared.guards.Condition.{Condition}
+use Rattle.rc_asked.specs.declared.guards.Condition.TheVariants.{Known, OfCard, Some}
+use Rattle.rc_asked.specs.declared.guards.GuardPart.{GuardPart}
 use Rattle.rc_asked.specs.declared.guards.Guard.{Guard}
 
--- what is wished of the card of the variable at a place
-abbrev pub wish_meant : ℕ → Wish → Test
-wish_meant place (Value name value) = has_value (card_var place) name value
-wish_meant place (Against name against other) = eq_attr (card_var place) name (top_card (cards_in (loc_seen against))) other
+-- the test of the card of the variable at a place
+abbrev pub card_test_meant : ℕ → CardTest → Test
+card_test_meant place (Value name value) = has_value (card_var place) name value
+card_test_meant place (Against name against other) = eq_attr (card_var place) name (top_card (cards_in (loc_seen against))) other
 
-abbrev pub question_meant : Question → Test
-question_meant (Known atom) = atom_meant atom
-question_meant (Wished wish) = wish_meant 0 wish
-question_meant (Some among bound wish) = any_of (each_card (cards_in (loc_seen among))) bound (wish_meant 1 wish)
+abbrev pub condition_meant : Condition → Test
+condition_meant (Known comparison) = comparison_meant comparison
+condition_meant (OfCard card_test) = card_test_meant 0 card_test
+condition_meant (Some among bound card_test) =
+    any_of (each_card (cards_in (loc_seen among))) bound (card_test_meant 1 card_test)
 
 abbrev pub in_sense : Sense → Test → Test
 in_sense Plain t = t
 in_sense Ne t = ne t
 in_sense Not t = not_of t
 
-abbrev pub part_meant : Part → Test
-part_meant part = in_sense part.sense (question_meant part.question)
+abbrev pub part_meant : GuardPart → Test
+part_meant part = in_sense part.sense (condition_meant part.condition)
 
 abbrev pub guard_meant : Guard → Test
 guard_meant guard = if guard.any then or_of (tests_from (map part_meant guard.parts.items)) else and_of (tests_from (map part_meant guard.parts.items))
@@ -57,30 +58,30 @@ IsFixedAmount (Number num) = IsFixedWho (num_seen num).who
 IsFixedAmount (Size loc) = IsFixedLoc (loc_seen loc)
 IsFixedAmount (Worth loc map) = IsFixedLoc (loc_seen loc)
 
-abbrev pub IsFixedAtom : Atom → Type 0
-IsFixedAtom (Compare how one other) = IsFixedAmount one × IsFixedAmount other
-IsFixedAtom (Same one name other other_name) = IsFixedLoc (loc_seen one) × IsFixedLoc (loc_seen other)
+abbrev pub IsFixedComparison : Comparison → Type 0
+IsFixedComparison (Compare how one other) = IsFixedAmount one × IsFixedAmount other
+IsFixedComparison (Same one name other other_name) = IsFixedLoc (loc_seen one) × IsFixedLoc (loc_seen other)
 
-abbrev pub IsFixedWish : Wish → Type 0
-IsFixedWish (Value name value) = ⊤
-IsFixedWish (Against name against other) = IsFixedLoc (loc_seen against)
+abbrev pub IsFixedCardTest : CardTest → Type 0
+IsFixedCardTest (Value name value) = ⊤
+IsFixedCardTest (Against name against other) = IsFixedLoc (loc_seen against)
 
-abbrev pub IsFixedQuestion : Question → Type 0
-IsFixedQuestion (Known atom) = IsFixedAtom atom
-IsFixedQuestion (Wished wish) = IsFixedWish wish
-IsFixedQuestion (Some among bound wish) = IsFixedLoc (loc_seen among) × IsFixedWish wish
+abbrev pub IsFixedCondition : Condition → Type 0
+IsFixedCondition (Known comparison) = IsFixedComparison comparison
+IsFixedCondition (OfCard card_test) = IsFixedCardTest card_test
+IsFixedCondition (Some among bound card_test) = IsFixedLoc (loc_seen among) × IsFixedCardTest card_test
 
-abbrev pub IsFixedPart : Part → Type 0
-IsFixedPart part = IsFixedQuestion part.question
+abbrev pub IsFixedPart : GuardPart → Type 0
+IsFixedPart part = IsFixedCondition part.condition
 
--- a wish, a question and a part that stand for a test, and of which no variable owns any location
-abbrev pub IsWishOf : ℕ → Test → Wish → Type 0
-IsWishOf place t wish = (wish_meant place wish ≡ t) × IsFixedWish wish
+-- a test of a card, a condition and a part that stand for a test, and of which no variable owns any location
+abbrev pub IsCardTestOf : ℕ → Test → CardTest → Type 0
+IsCardTestOf place t card_test = (card_test_meant place card_test ≡ t) × IsFixedCardTest card_test
 
-abbrev pub IsQuestionOf : Test → Question → Type 0
-IsQuestionOf t question = (question_meant question ≡ t) × IsFixedQuestion question
+abbrev pub IsConditionOf : Test → Condition → Type 0
+IsConditionOf t condition = (condition_meant condition ≡ t) × IsFixedCondition condition
 
-abbrev pub IsPartOf : Test → Part → Type 0
+abbrev pub IsPartOf : Test → GuardPart → Type 0
 IsPartOf t part = (part_meant part ≡ t) × IsFixedPart part
 
 abbrev pub IsFixedGuard : Guard → Type 0

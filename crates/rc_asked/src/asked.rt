@@ -1,26 +1,26 @@
 //! Tests that are asked again and again.
 
-use crate::flat::{Flat, flat_of};
+use crate::flat::{FlatTest, flat_of};
 use rc_ast::Test;
 use std::marker::Model;
 
 /// A test, with its flat form if it has one.
-pub struct Asked {
+pub struct CompiledTest {
     test: Test,
-    flat: Option<Flat>,
+    flat: Option<FlatTest>,
 }
 
-impl Drop for Asked {
+impl Drop for CompiledTest {
     // a derived drop is proved again wherever such a test is dropped, and this one once
     fn drop(self) {
-        let Asked {
+        let CompiledTest {
             test: _test,
             flat: _flat,
         } = self;
     }
 }
 
-impl Model for Asked {
+impl Model for CompiledTest {
     ghost use Rattle.rc_sheet_model.specs.Sheet.{Test as PureTest};
     ghost use Rattle.rc_ast.specs.Expressions.{test_seen};
     ghost use Rattle.rc_flow.specs.Codes.{coded_test};
@@ -38,18 +38,18 @@ impl Model for Asked {
         × (is_some a.flat ≡ has_flat_form (test_seen a.test)) };
 }
 
-impl Asked {
+impl CompiledTest {
     ghost use Rattle.std.specs.Prelude.{◌≡◌, is_some, IfSome};
     ghost use Rattle.rc_ast.specs.Expressions.{test_seen};
     ghost use Rattle.rc_asked.specs.Meaning.{flat_meant};
     ghost use Rattle.rc_asked.specs.Flatness.{has_flat_form};
 
     /// A test that is to be asked.
-    pub fn new(test: Test) -> Asked
+    pub fn new(test: Test) -> CompiledTest
         ensures { result ≡ test_seen test }
     {
         let flat = flat_of(&test);
-        Asked { test, flat }
+        CompiledTest { test, flat }
     }
 
     /// The test.
@@ -62,7 +62,7 @@ impl Asked {
 
     /// Its flat form, if it has one.
     #[inline(always)]
-    pub fn flat(&self) -> Option<&Flat>
+    pub fn flat(&self) -> Option<&FlatTest>
         ensures same { IfSome result (λ flat. flat_meant flat.now ≡ self.now) }
         ensures found { is_some result ≡ has_flat_form self.now }
     {

@@ -6,16 +6,16 @@ ghost use Rattle.rc_ast.specs.Expressions.{coll_seen, domain_seen, int_seen, tes
 ghost use Rattle.rc_asked.specs.Meaning.{flat_meant, IsFlatForm};
 ghost use Rattle.rc_asked.specs.Flatness.{are_players, are_two_comparisons, counts_own, has_flat_form, is_comparison, is_outermost, is_own, is_own_size, is_written_out};
 
-use crate::atoms::{Atom, atom_of};
+use crate::atoms::{Comparison, comparison_of};
 use rc_ast::{CollExpr, Domain, IntExpr, Loc, Test, Who};
 
 /// A test in flat form: one comparison, two that are both to hold, or whether each player has so many cards in a
 /// location of his, outside all binders. Beside that stand the number of its variable's word and the offset of the
 /// location's form.
 #[derive(Clone, Copy)]
-pub enum Flat {
-    One(Atom),
-    Both(Atom, Atom),
+pub enum FlatTest {
+    One(Comparison),
+    Both(Comparison, Comparison),
     EachHas {
         bound: u32,
         name: u16,
@@ -24,16 +24,16 @@ pub enum Flat {
     },
 }
 
-fn both_of(tests: &Vec<Test>) -> Option<Flat>
+fn both_of(tests: &Vec<Test>) -> Option<FlatTest>
     ensures same { IfSome result (λ flat. flat_meant flat ≡ and_of (tests_seen tests.now.items)) }
     ensures found { is_some result ≡ are_two_comparisons (tests_seen tests.now.items) }
 {
     if tests.len() != 2 {
         return None;
     }
-    match atom_of(&tests[0]) {
-        Some(one) => match atom_of(&tests[1]) {
-            Some(other) => Some(Flat::Both(one, other)),
+    match comparison_of(&tests[0]) {
+        Some(one) => match comparison_of(&tests[1]) {
+            Some(other) => Some(FlatTest::Both(one, other)),
             None => None,
         },
         None => None,
@@ -41,13 +41,13 @@ fn both_of(tests: &Vec<Test>) -> Option<Flat>
 }
 
 // So many in a location of the player that the outermost variable stands for.
-fn each_has(bound: u32, loc: &Loc, count: i64) -> Option<Flat>
+fn each_has(bound: u32, loc: &Loc, count: i64) -> Option<FlatTest>
     ensures same { IfSome result (λ flat. flat_meant flat
         ≡ all_of each_player bound (eq_int (size_of (cards_in (loc_seen loc.now))) (literal count))) }
     ensures found { is_some result ≡ is_outermost (loc_seen loc.now).who }
 {
     match loc.who {
-        Who::Var(0) => Some(Flat::EachHas {
+        Who::Var(0) => Some(FlatTest::EachHas {
             bound,
             name: loc.name,
             at: loc.at,
@@ -58,7 +58,7 @@ fn each_has(bound: u32, loc: &Loc, count: i64) -> Option<Flat>
 }
 
 // As many as a number, if it is a literal.
-fn each_has_literal(bound: u32, loc: &Loc, expr: &IntExpr) -> Option<Flat>
+fn each_has_literal(bound: u32, loc: &Loc, expr: &IntExpr) -> Option<FlatTest>
     ensures same { IfSome result (λ flat. flat_meant flat
         ≡ all_of each_player bound (eq_int (size_of (cards_in (loc_seen loc.now))) (int_seen expr.now))) }
     ensures found { is_some result ≡ is_outermost (loc_seen loc.now).who && is_written_out (int_seen expr.now) }
@@ -69,7 +69,7 @@ fn each_has_literal(bound: u32, loc: &Loc, expr: &IntExpr) -> Option<Flat>
     }
 }
 
-fn each_size(bound: u32, cards: &CollExpr, expr: &IntExpr) -> Option<Flat>
+fn each_size(bound: u32, cards: &CollExpr, expr: &IntExpr) -> Option<FlatTest>
     ensures same { IfSome result (λ flat. flat_meant flat
         ≡ all_of each_player bound (eq_int (size_of (coll_seen cards.now)) (int_seen expr.now))) }
     ensures found { is_some result ≡ is_own (coll_seen cards.now) && is_written_out (int_seen expr.now) }
@@ -80,7 +80,7 @@ fn each_size(bound: u32, cards: &CollExpr, expr: &IntExpr) -> Option<Flat>
     }
 }
 
-fn each_equal(bound: u32, a: &IntExpr, b: &IntExpr) -> Option<Flat>
+fn each_equal(bound: u32, a: &IntExpr, b: &IntExpr) -> Option<FlatTest>
     ensures same { IfSome result (λ flat. flat_meant flat
         ≡ all_of each_player bound (eq_int (int_seen a.now) (int_seen b.now))) }
     ensures found { is_some result ≡ is_own_size (int_seen a.now) && is_written_out (int_seen b.now) }
@@ -91,7 +91,7 @@ fn each_equal(bound: u32, a: &IntExpr, b: &IntExpr) -> Option<Flat>
     }
 }
 
-fn of_each(bound: u32, test: &Test) -> Option<Flat>
+fn of_each(bound: u32, test: &Test) -> Option<FlatTest>
     ensures same { IfSome result (λ flat. flat_meant flat ≡ all_of each_player bound (test_seen test.now)) }
     ensures found { is_some result ≡ counts_own (test_seen test.now) }
 {
@@ -102,7 +102,7 @@ fn of_each(bound: u32, test: &Test) -> Option<Flat>
 }
 
 // A test of all members of a domain in flat form, if they are the players and it has one.
-fn all_in(domain: &Domain, bound: u32, test: &Test) -> Option<Flat>
+fn all_in(domain: &Domain, bound: u32, test: &Test) -> Option<FlatTest>
     ensures same { IfSome result (λ flat. flat_meant flat
         ≡ all_of (domain_seen domain.now) bound (test_seen test.now)) }
     ensures found { is_some result ≡ are_players (domain_seen domain.now) && counts_own (test_seen test.now) }
@@ -113,18 +113,18 @@ fn all_in(domain: &Domain, bound: u32, test: &Test) -> Option<Flat>
     }
 }
 
-fn one_of(test: &Test) -> Option<Flat>
+fn one_of(test: &Test) -> Option<FlatTest>
     ensures same { IfSome result (λ flat. flat_meant flat ≡ test_seen test.now) }
     ensures found { is_some result ≡ is_comparison (test_seen test.now) }
 {
-    match atom_of(test) {
-        Some(atom) => Some(Flat::One(atom)),
+    match comparison_of(test) {
+        Some(comparison) => Some(FlatTest::One(comparison)),
         None => None,
     }
 }
 
 /// A test in flat form, if it has one.
-pub(crate) fn flat_of(test: &Test) -> Option<Flat>
+pub(crate) fn flat_of(test: &Test) -> Option<FlatTest>
     ensures same { IsFlatForm (test_seen test.now) result }
     ensures found { is_some result ≡ has_flat_form (test_seen test.now) }
 {

@@ -4,16 +4,16 @@ ghost use Rattle.rc_sheet_model.specs.Sheet.{and_of, any_alt, any_of, cards_in, 
 ghost use Rattle.rc_ast.specs.Names.{loc_seen};
 ghost use Rattle.rc_ast.specs.Expressions.{card_seen, coll_seen, domain_seen, test_seen, tests_seen};
 ghost use Rattle.rc_ast.specs.Items.{alt_seen};
-ghost use Rattle.rc_asked.specs.Guards.{in_sense, part_meant, guard_meant, IsFixedLoc, IsFixedAmount, IsFixedAtom, IsFixedPart, IsFixedGuard, IsQuestionOf, IsPartOf, IsGuardOf, IsWishOf};
-ghost use Rattle.rc_asked.specs.GuardParts.{is_fixed_who, is_fixed_location, is_fixed_top, is_fixed_domain, is_fixed_number, is_fixed_comparison, is_the_variable, is_wish, is_question, is_part, are_few_parts, is_in_parts, is_guarded, has_guard};
-ghost use Rattle.rc_asked.specs.Meaning.{amount_meant, atom_meant};
+ghost use Rattle.rc_asked.specs.Guards.{in_sense, part_meant, guard_meant, IsFixedLoc, IsFixedAmount, IsFixedComparison, IsFixedPart, IsFixedGuard, IsConditionOf, IsPartOf, IsGuardOf, IsCardTestOf};
+ghost use Rattle.rc_asked.specs.GuardParts.{is_fixed_who, is_fixed_location, is_fixed_top, is_fixed_domain, is_fixed_number, is_fixed_comparison, is_the_variable, is_card_test, is_condition, is_part, are_few_parts, is_in_parts, is_guarded, has_guard};
+ghost use Rattle.rc_asked.specs.Meaning.{amount_meant, comparison_meant};
 
 use crate::amounts::Amount;
-use crate::atoms::{Atom, atom_of};
+use crate::atoms::{Comparison, comparison_of};
 use arrayvec::ArrayVec;
 use rc_ast::{Alt, CardExpr, CollExpr, Domain, Loc, Test, Who};
 
-/// Whether a question is asked as it is, or its opposite, in either of the two ways in which a sheet says so.
+/// Whether a condition is asked as it is, or its opposite, in either of the two ways in which a sheet says so.
 #[derive(Clone, Copy)]
 pub enum Sense {
     Plain,
@@ -21,41 +21,41 @@ pub enum Sense {
     Not,
 }
 
-/// What is wished of a card: that it has a value for an attribute, or for one the value that the top card of a location
-/// has for one.
+/// A test of a card: whether it has a value for an attribute, or for one the value that the top card of a location has
+/// for one.
 #[derive(Clone, Copy)]
-pub enum Wish {
+pub enum CardTest {
     Value { name: u16, value: u16 },
     Against { name: u16, against: Loc, other: u16 },
 }
 
-/// A question that is answered with no walk over a tree, where no variable owns any of its locations: a comparison;
-/// whether the innermost variable's card is as it is wished; or whether one of the cards of a location is.
+/// A condition that is asked with no walk over a tree, where no variable owns any of its locations: a comparison;
+/// whether the innermost variable's card passes a test; or whether one of the cards of a location does.
 #[derive(Clone, Copy)]
-pub enum Question {
-    Known(Atom),
-    Wished(Wish),
-    Some { among: Loc, bound: u32, wish: Wish },
+pub enum Condition {
+    Known(Comparison),
+    OfCard(CardTest),
+    Some { among: Loc, bound: u32, card_test: CardTest },
 }
 
 /// A part of a guard.
 #[derive(Clone, Copy)]
-pub struct Part {
+pub struct GuardPart {
     pub sense: Sense,
-    pub question: Question,
+    pub condition: Condition,
 }
 
-impl Default for Part {
-    fn default() -> Part {
-        Part {
+impl Default for GuardPart {
+    fn default() -> GuardPart {
+        GuardPart {
             sense: Sense::Plain,
-            question: Question::Wished(Wish::Value { name: 0, value: 0 }),
+            condition: Condition::OfCard(CardTest::Value { name: 0, value: 0 }),
         }
     }
 }
 
 /// The parts of a guard, few of them.
-pub type FewParts = ArrayVec<Part, 4>;
+pub type FewParts = ArrayVec<GuardPart, 4>;
 
 /// A guard of the cards of a location: whether one of its parts is enough, and the parts. No variable owns any of its
 /// locations.
@@ -94,13 +94,13 @@ fn is_fixed_amount(amount: &Amount) -> bool
     }
 }
 
-fn is_fixed_atom(atom: &Atom) -> bool
-    ensures fixed { result ≡ true → IsFixedAtom atom.now }
-    ensures told { result ≡ is_fixed_comparison (atom_meant atom.now) }
+fn is_comparison_fixed(comparison: &Comparison) -> bool
+    ensures fixed { result ≡ true → IsFixedComparison comparison.now }
+    ensures told { result ≡ is_fixed_comparison (comparison_meant comparison.now) }
 {
-    match atom {
-        Atom::Compare { how: _, one, other } => is_fixed_amount(one) && is_fixed_amount(other),
-        Atom::Same {
+    match comparison {
+        Comparison::Compare { how: _, one, other } => is_fixed_amount(one) && is_fixed_amount(other),
+        Comparison::Same {
             one,
             name: _,
             other,
@@ -156,16 +156,16 @@ fn is_variable(card: &CardExpr, place: u8) -> bool
     }
 }
 
-// What is wished of the card of the variable at this place, where that is what two cards' values are compared for.
-fn wish_between(a: &CardExpr, name: u16, b: &CardExpr, other: u16, place: u8) -> Option<Wish>
-    ensures is { IfSome result (IsWishOf place (eq_attr (card_seen a.now) name (card_seen b.now) other)) }
+// The test of the card of the variable at this place, where that is what two cards' values are compared for.
+fn card_test_between(a: &CardExpr, name: u16, b: &CardExpr, other: u16, place: u8) -> Option<CardTest>
+    ensures is { IfSome result (IsCardTestOf place (eq_attr (card_seen a.now) name (card_seen b.now) other)) }
     ensures found { is_some result ≡ is_the_variable place (card_seen a.now) && is_fixed_top (card_seen b.now) }
 {
     if !is_variable(a, place) {
         return None;
     }
     match fixed_top(b) {
-        Some(against) => Some(Wish::Against {
+        Some(against) => Some(CardTest::Against {
             name,
             against,
             other,
@@ -175,35 +175,35 @@ fn wish_between(a: &CardExpr, name: u16, b: &CardExpr, other: u16, place: u8) ->
 }
 
 // The same where a card is asked for a value.
-fn wish_named(card: &CardExpr, name: u16, value: u16, place: u8) -> Option<Wish>
-    ensures is { IfSome result (IsWishOf place (has_value (card_seen card.now) name value)) }
+fn card_test_named(card: &CardExpr, name: u16, value: u16, place: u8) -> Option<CardTest>
+    ensures is { IfSome result (IsCardTestOf place (has_value (card_seen card.now) name value)) }
     ensures found { is_some result ≡ is_the_variable place (card_seen card.now) }
 {
     if is_variable(card, place) {
-        return Some(Wish::Value { name, value });
+        return Some(CardTest::Value { name, value });
     }
     None
 }
 
-fn wish_of(test: &Test, place: u8) -> Option<Wish>
-    ensures is { IfSome result (IsWishOf place (test_seen test.now)) }
-    ensures found { is_some result ≡ is_wish place (test_seen test.now) }
+fn card_test_of(test: &Test, place: u8) -> Option<CardTest>
+    ensures is { IfSome result (IsCardTestOf place (test_seen test.now)) }
+    ensures found { is_some result ≡ is_card_test place (test_seen test.now) }
 {
     match test {
-        Test::EqAttr(a, name, b, other) => wish_between(a, *name, b, *other, place),
-        Test::Is(card, name, value) => wish_named(card, *name, *value, place),
+        Test::EqAttr(a, name, b, other) => card_test_between(a, *name, b, *other, place),
+        Test::Is(card, name, value) => card_test_named(card, *name, *value, place),
         _ => None,
     }
 }
 
-fn known_of(test: &Test) -> Option<Question>
-    ensures is { IfSome result (IsQuestionOf (test_seen test.now)) }
+fn known_of(test: &Test) -> Option<Condition>
+    ensures is { IfSome result (IsConditionOf (test_seen test.now)) }
     ensures found { is_some result ≡ is_fixed_comparison (test_seen test.now) }
 {
-    match atom_of(test) {
-        Some(atom) => {
-            if is_fixed_atom(&atom) {
-                Some(Question::Known(atom))
+    match comparison_of(test) {
+        Some(comparison) => {
+            if is_comparison_fixed(&comparison) {
+                Some(Condition::Known(comparison))
             } else {
                 None
             }
@@ -212,21 +212,21 @@ fn known_of(test: &Test) -> Option<Question>
     }
 }
 
-// The question that a test is which binds no variable.
-fn plain_question(test: &Test) -> Option<Question>
-    ensures is { IfSome result (IsQuestionOf (test_seen test.now)) }
-    ensures found { is_some result ≡ is_wish 0 (test_seen test.now) || is_fixed_comparison (test_seen test.now) }
+// The condition that a test is which binds no variable.
+fn plain_condition(test: &Test) -> Option<Condition>
+    ensures is { IfSome result (IsConditionOf (test_seen test.now)) }
+    ensures found { is_some result ≡ is_card_test 0 (test_seen test.now) || is_fixed_comparison (test_seen test.now) }
 {
-    match wish_of(test, 0) {
-        Some(wish) => Some(Question::Wished(wish)),
+    match card_test_of(test, 0) {
+        Some(card_test) => Some(Condition::OfCard(card_test)),
         None => known_of(test),
     }
 }
 
-// The question whether one of a domain passes a test.
-fn some_of(domain: &Domain, bound: u32, inner: &Test) -> Option<Question>
-    ensures is { IfSome result (IsQuestionOf (any_of (domain_seen domain.now) bound (test_seen inner.now))) }
-    ensures found { is_some result ≡ is_fixed_domain (domain_seen domain.now) && is_wish 1 (test_seen inner.now) }
+// The condition that one of a domain passes a test.
+fn some_of(domain: &Domain, bound: u32, inner: &Test) -> Option<Condition>
+    ensures is { IfSome result (IsConditionOf (any_of (domain_seen domain.now) bound (test_seen inner.now))) }
+    ensures found { is_some result ≡ is_fixed_domain (domain_seen domain.now) && is_card_test 1 (test_seen inner.now) }
 {
     match fixed_domain(domain) {
         Some(among) => some_in(among, bound, inner),
@@ -234,39 +234,39 @@ fn some_of(domain: &Domain, bound: u32, inner: &Test) -> Option<Question>
     }
 }
 
-fn some_in(among: Loc, bound: u32, inner: &Test) -> Option<Question>
+fn some_in(among: Loc, bound: u32, inner: &Test) -> Option<Condition>
     requires { IsFixedLoc (loc_seen among) }
-    ensures is { IfSome result (IsQuestionOf
+    ensures is { IfSome result (IsConditionOf
         (any_of (each_card (cards_in (loc_seen among))) bound (test_seen inner.now))) }
-    ensures found { is_some result ≡ is_wish 1 (test_seen inner.now) }
+    ensures found { is_some result ≡ is_card_test 1 (test_seen inner.now) }
 {
-    match wish_of(inner, 1) {
-        Some(wish) => Some(Question::Some { among, bound, wish }),
+    match card_test_of(inner, 1) {
+        Some(card_test) => Some(Condition::Some { among, bound, card_test }),
         None => None,
     }
 }
 
-fn question_of(test: &Test) -> Option<Question>
-    ensures is { IfSome result (IsQuestionOf (test_seen test.now)) }
-    ensures found { is_some result ≡ is_question (test_seen test.now) }
+fn condition_of(test: &Test) -> Option<Condition>
+    ensures is { IfSome result (IsConditionOf (test_seen test.now)) }
+    ensures found { is_some result ≡ is_condition (test_seen test.now) }
 {
     match test {
         Test::Any(domain, bound, inner) => some_of(domain, *bound, inner),
-        _ => plain_question(test),
+        _ => plain_condition(test),
     }
 }
 
-fn sensed(sense: Sense, test: &Test) -> Option<Part>
+fn sensed(sense: Sense, test: &Test) -> Option<GuardPart>
     ensures is { IfSome result (IsPartOf (in_sense sense (test_seen test.now))) }
-    ensures found { is_some result ≡ is_question (test_seen test.now) }
+    ensures found { is_some result ≡ is_condition (test_seen test.now) }
 {
-    match question_of(test) {
-        Some(question) => Some(Part { sense, question }),
+    match condition_of(test) {
+        Some(condition) => Some(GuardPart { sense, condition }),
         None => None,
     }
 }
 
-fn part_of(test: &Test) -> Option<Part>
+fn part_of(test: &Test) -> Option<GuardPart>
     ensures is { IfSome result (IsPartOf (test_seen test.now)) }
     ensures found { is_some result ≡ is_part (test_seen test.now) }
 {

@@ -12,9 +12,9 @@ mod offer;
 mod tricks;
 
 pub use amounts::Amount;
-pub use asked::Asked;
-pub use atoms::{Atom, Comparison};
-pub use flat::Flat;
-pub use guards::{FewParts, Guard, Part, Question, Sense, Wish};
+pub use asked::CompiledTest;
+pub use atoms::{Comparison, Comparator};
+pub use flat::FlatTest;
+pub use guards::{FewParts, Guard, GuardPart, Condition, Sense, CardTest};
 pub use offer::Offer;
 pub use tricks::trick_tests_have_flat_forms;

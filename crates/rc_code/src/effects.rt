@@ -10,7 +10,7 @@ ghost use Rattle.rc_code.specs.Seen.{instruction_seen, list_seen};
 use crate::code::Instruction;
 use crate::copied_effects::copy_effect;
 use crate::copies::{copy_domain, copy_int, copy_test};
-use rc_asked::Asked;
+use rc_asked::CompiledTest;
 use rc_ast::{Domain, Effect, IntExpr, Test};
 use rc_deck::Memory;
 use std::alloc::Global;
@@ -128,7 +128,7 @@ fn push_if(
     };
     match copy_test(alloc, test) {
         Ok(test) => {
-            write(list, at, Instruction::If(Asked::new(test), inside));
+            write(list, at, Instruction::If(CompiledTest::new(test), inside));
             Ok(())
         }
         Err(Memory) => Err(Memory),

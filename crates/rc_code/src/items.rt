@@ -13,7 +13,7 @@ use crate::code::{Block, Instruction, SitePlace};
 use crate::copied_effects::copy_offers;
 use crate::copies::copy_test;
 use crate::effects::{push, push_effects, push_inside, write};
-use rc_asked::Asked;
+use rc_asked::CompiledTest;
 use rc_ast::{Alt, Class, Effect, SheetItem, Test};
 use rc_deck::Memory;
 use std::alloc::Global;
@@ -116,7 +116,7 @@ fn push_stage(
                 Instruction::Stage {
                     number,
                     class,
-                    end: Asked::new(end),
+                    end: CompiledTest::new(end),
                     inside,
                 },
             );

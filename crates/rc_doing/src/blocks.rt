@@ -21,7 +21,7 @@ ghost use Rattle.rc_rules.specs.Dealer.{ShuffledBy};
 use crate::everyone::{gather_all, gather_for_each, set_all, set_for_each};
 use crate::scopes::one_more;
 use crate::simple::do_simple;
-use rc_asked::Asked;
+use rc_asked::CompiledTest;
 use rc_ast::{CollExpr, Domain, IntExpr};
 use rc_board::Board;
 use rc_code::Instruction;
@@ -61,7 +61,7 @@ pub fn past(code: &[Instruction], count: usize) -> &[Instruction]
 
 // The test and what is inside, where a block is one `if`.
 #[inline(always)]
-fn sole_if(code: &[Instruction]) -> Option<(&Asked, &[Instruction])>
+fn sole_if(code: &[Instruction]) -> Option<(&CompiledTest, &[Instruction])>
     ensures is { IfSome result (λ sole. effects_in (list_seen code.now)
         ≡ effect (when sole.0.now (effects_in (list_seen sole.1.now))) no_effect) }
     ensures simple { IfSome result (λ sole. AreSimple (list_seen code.now) → AreSimple (list_seen sole.1.now)) }
@@ -187,7 +187,7 @@ fn do_first<'c, D: Dealer>(
 #[inline(always)]
 fn do_if<D: Dealer>(
     context: &Context,
-    test: &Asked,
+    test: &CompiledTest,
     inside: &[Instruction],
     board: &mut Board,
     frames: &mut Frames,

@@ -12,7 +12,7 @@ use Rattle.rc_flow.specs.Reads.{reads_test}
 use Rattle.rc_flow.proofs.Unread.{unread_test}
 use Rattle.rc_rules.proofs.Elements.{drop_here}
 use Rattle.rc_menu.specs.declared.asks.CardAsk.{CardAsk}
-use Rattle.rc_menu.specs.declared.asks.CardAsk.TheVariants.{Value, Wish, Whole}
+use Rattle.rc_menu.specs.declared.asks.CardAsk.TheVariants.{Value, CardTest, Whole}
 use Rattle.rc_ast.specs.declared.expressions.Test.{Test}
 use Rattle.rc_ast.specs.Expressions.{test_seen, tests_seen}
 use Rattle.rc_value.proofs.Steps.{values_here}
@@ -165,10 +165,10 @@ told_asked told false any rest is e = e
 module _ (s : PureScene CardValue) (vars : List (PureBind CardValue)) where
   pub met_here : (c : CardValue) (ask : CardAsk) → asks_value ask ≡ true → met_value (id_of c) ask ≡ ask_value s vars c ask
   met_here c (Value value row) by_row = refl
-  met_here c (Wish equal value row) by_row = refl
+  met_here c (CardTest equal value row) by_row = refl
   met_here c (Whole t) by_row = absurd (cc)
 
   pub met_depth : (ask : CardAsk) → asks_value ask ≡ true → ask_depth ask ≡ 0
   met_depth (Value value row) by_row = refl
-  met_depth (Wish equal value row) by_row = refl
+  met_depth (CardTest equal value row) by_row = refl
   met_depth (Whole t) by_row = absurd (cc)

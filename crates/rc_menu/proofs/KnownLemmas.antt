@@ -8,8 +8,8 @@ use Rattle.rc_play_model.specs.Owners.{place_among}
 use Rattle.rc_play_model.specs.Scene.{CardValue}
 use Rattle.rc_play_model.specs.Value.{Scene as PureScene, Bind as PureBind, attr_of, both, card_bound, nat_same, number_there, coll_value, int_value, test_value}
 use Rattle.rc_menu.specs.declared.known.AtHand.{AtHand}
-use Rattle.rc_menu.specs.declared.known.AtHand.TheVariants.{Wished, Holds, Unclear}
-use Rattle.rc_value.specs.declared.wanted.Wanted.{Wanted}
+use Rattle.rc_menu.specs.declared.known.AtHand.TheVariants.{OfCard, Holds, Unclear}
+use Rattle.rc_value.specs.declared.wanted.WantedValue.{WantedValue}
 use Rattle.rc_menu.specs.Known.{hand_turned, turned, IsAllKnownAt, IsAnyKnownAt, IsAtHand, IsFixedNumber, IsKnownAt, IsKnownNumber, IsKnownPair, IsTurned}
 use Rattle.rc_value.specs.Wanted.{compares, wanted_value, IsFixedCollection, IsFixedOwner, IsWantedAt}
 use Rattle.rc_value.proofs.WantedLemmas.{fixed_cards, all_wanted, any_wanted}
@@ -32,7 +32,7 @@ not_not : (b : Bool) → not (not b) ≡ b
 not_not true = refl
 not_not false = refl
 
--- the opposite of a wish
+-- the opposite of a test of a card
 turned_meets : (opposite equal : Bool) (value has : Option ℕ) → turned opposite (compares equal value has) ≡ compares (turned opposite equal) value has
 turned_meets true true value has = refl
 turned_meets true false value has = not_not (both nat_same has value)
@@ -59,7 +59,7 @@ module _ (s : PureScene CardValue) where
   -- what is at hand of an opposite
   pub turned_hand : (vars : List (PureBind CardValue)) (opposite : Bool) (t t' : Test) (hand : AtHand) → IsTurned opposite t t' →
       IsAtHand s vars t hand → IsAtHand s vars t' (hand_turned opposite hand)
-  turned_hand vars opposite t t' (Wished w) how h = λ c.
+  turned_hand vars opposite t t' (OfCard w) how h = λ c.
       how s (vars ++ card_bound c ∷ []) ∙ ap (turned opposite) (h c) ∙ turned_meets opposite w.equal w.value (attr_of s w.name c)
   turned_hand vars opposite t t' (Holds holds) how h = λ vars' few. how s vars' ∙ ap (turned opposite) (h vars' few)
   turned_hand vars opposite t t' Unclear how h = h
@@ -75,7 +75,7 @@ module _ (s : PureScene CardValue) where
   any_at count bound domain inner t None e h = h
   any_at count bound domain inner t (Some is) e h = λ vars few. ap (test_value s vars) e ∙ h bound vars few
 
-  module _ (scope : List (PureBind CardValue)) (count : ℕ) (domain : Domain) (inner : Test) (loc : Loc) (w : Wanted) (cards : List CardValue) (is : Bool)
+  module _ (scope : List (PureBind CardValue)) (count : ℕ) (domain : Domain) (inner : Test) (loc : Loc) (w : WantedValue) (cards : List CardValue) (is : Bool)
       (over : domain ≡ each_card (cards_in loc)) (fixed : IsFixedOwner loc.who) (wanted : IsWantedAt s count inner w) (there : cards ≡ coll_value s scope (cards_in loc)) where
     pub all_known_there : is ≡ list_all (wanted_value s w) cards → IsAllKnownAt s count domain inner is
     all_known_there e = λ bound vars few.

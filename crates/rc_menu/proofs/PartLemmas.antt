@@ -9,22 +9,22 @@ use Rattle.rc_play_model.specs.Value.{Scene as PureScene, Bind as PureBind, card
 use Rattle.rc_ast.specs.Names.{loc_seen, num_seen}
 use Rattle.rc_asked.specs.declared.amounts.Amount.{Amount}
 use Rattle.rc_asked.specs.declared.amounts.Amount.TheVariants.{Literal, Number, Size, Worth}
-use Rattle.rc_asked.specs.declared.atoms.Atom.{Atom}
-use Rattle.rc_asked.specs.declared.atoms.Atom.TheVariants.{Compare, Same}
-use Rattle.rc_asked.specs.declared.atoms.Comparison.TheVariants.{Equal}
+use Rattle.rc_asked.specs.declared.atoms.Comparison.{Comparison}
+use Rattle.rc_asked.specs.declared.atoms.Comparison.TheVariants.{Compare, Same}
+use Rattle.rc_asked.specs.declared.atoms.Comparator.TheVariants.{Equal}
 use Rattle.rc_asked.specs.declared.guards.Sense.TheVariants.{Plain}
-use Rattle.rc_asked.specs.declared.guards.Question.TheVariants.{Known}
-use Rattle.rc_asked.specs.declared.guards.Part.{Part}
+use Rattle.rc_asked.specs.declared.guards.Condition.TheVariants.{Known}
+use Rattle.rc_asked.specs.declared.guards.GuardPart.{GuardPart}
 use Rattle.rc_asked.specs.declared.guards.Guard.{Guard}
-use Rattle.rc_asked.specs.Meaning.{amount_meant, atom_meant}
-use Rattle.rc_asked.specs.Guards.{guard_meant, part_meant, IsFixedAmount, IsFixedAtom, IsFixedLoc, IsFixedWho}
+use Rattle.rc_asked.specs.Meaning.{amount_meant, comparison_meant}
+use Rattle.rc_asked.specs.Guards.{guard_meant, part_meant, IsFixedAmount, IsFixedComparison, IsFixedLoc, IsFixedWho}
 use Rattle.rc_rules.proofs.Elements.{drop_here}
 use Rattle.rc_value.specs.Comparing.{compare}
 use Rattle.rc_value.specs.Wanted.{IsFixed, IsFixedCollection, IsFixedOwner}
 use Rattle.rc_value.proofs.AtomLemmas.{compared_is}
 use Rattle.rc_value.proofs.WantedLemmas.{fixed_cards, fixed_top}
 use Rattle.rc_menu.specs.declared.asks.CardAsk.{CardAsk}
-use Rattle.rc_menu.specs.declared.asks.CardAsk.TheVariants.{Value, Wish, Whole}
+use Rattle.rc_menu.specs.declared.asks.CardAsk.TheVariants.{Value, CardTest, Whole}
 use Rattle.rc_menu.specs.Asks.{ask_value, asks_value, joined, parts_told, told_of, IsJoined}
 use Rattle.rc_menu.specs.Known.{IsFixedNumber, IsKnownAt}
 use Rattle.rc_menu.proofs.KnownLemmas.{fixed_literal, fixed_num, fixed_size}
@@ -50,55 +50,57 @@ fixed_amount (Number num) fixed = fixed_num (num_seen num) (amount_meant (Number
 fixed_amount (Size loc) fixed = fixed_size (cards_in (loc_seen loc)) (amount_meant (Size loc)) refl (fixed_here (loc_seen loc) fixed)
 fixed_amount (Worth loc points) fixed = λ s vars vars'. ap (worth_of_any s points) (fixed_above (loc_seen loc) fixed s vars vars')
 
-fixed_atom : (atom : Atom) → IsFixedAtom atom → (s : PureScene CardValue) (vars vars' : List (PureBind CardValue)) →
-    test_value s vars (atom_meant atom) ≡ test_value s vars' (atom_meant atom)
-fixed_atom (Compare how one other) fixed s vars vars' =
+fixed_comparison : (comparison : Comparison) → IsFixedComparison comparison →
+    (s : PureScene CardValue) (vars vars' : List (PureBind CardValue)) →
+    test_value s vars (comparison_meant comparison) ≡ test_value s vars' (comparison_meant comparison)
+fixed_comparison (Compare how one other) fixed s vars vars' =
     sym (compared_is s vars how (amount_meant one) (amount_meant other))
     ∙ ap₂ (compare how) (fixed_amount one fixed.0 s vars vars') (fixed_amount other fixed.1 s vars vars')
     ∙ compared_is s vars' how (amount_meant one) (amount_meant other)
-fixed_atom (Same one name other other_name) fixed s vars vars' =
+fixed_comparison (Same one name other other_name) fixed s vars vars' =
     ap₂ (λ x y. both nat_same (attr_of_any s name x) (attr_of_any s other_name y))
     (fixed_above (loc_seen one) fixed.0 s vars vars') (fixed_above (loc_seen other) fixed.1 s vars vars')
 
 -- a comparison of what no variable owns is known
-pub atom_known : (s : PureScene CardValue) (vars : List (PureBind CardValue)) (count : ℕ) (atom : Atom) (holds : Bool) → IsFixedAtom atom →
-    holds ≡ test_value s vars (atom_meant atom) → IsKnownAt s count (atom_meant atom) holds
-atom_known s vars count atom holds fixed is = λ vars' few. fixed_atom atom fixed s vars' vars ∙ sym is
+pub comparison_known : (s : PureScene CardValue) (vars : List (PureBind CardValue)) (count : ℕ) (comparison : Comparison) (holds : Bool) → IsFixedComparison comparison →
+    holds ≡ test_value s vars (comparison_meant comparison) → IsKnownAt s count (comparison_meant comparison) holds
+comparison_known s vars count comparison holds fixed is =
+    λ vars' few. fixed_comparison comparison fixed s vars' vars ∙ sym is
 
 -- what is read of a list of parts at a place that it hasn't
-abbrev pub no_part : Part
-no_part = record { sense = Plain; question = Known (Compare Equal (Literal (pos 0)) (Literal (pos 0))) }
+abbrev pub no_part : GuardPart
+no_part = record { sense = Plain; condition = Known (Compare Equal (Literal (pos 0)) (Literal (pos 0))) }
 
 -- where values are all that is asked, and one more is
 pub sought_more : (asks : List CardAsk) (ask : CardAsk) → list_all asks_value asks ≡ true → asks_value ask ≡ true → list_all asks_value (asks ++ ask ∷ []) ≡ true
 sought_more [] ask sought by_row = ap (λ b. b && true) by_row
 sought_more (Value value row ∷ asks) ask sought by_row = sought_more asks ask sought by_row
-sought_more (Wish equal value row ∷ asks) ask sought by_row = sought_more asks ask sought by_row
+sought_more (CardTest equal value row ∷ asks) ask sought by_row = sought_more asks ask sought by_row
 sought_more (Whole t ∷ asks) ask sought by_row = absurd (cc)
 
 module _ (s : PureScene CardValue) (vars : List (PureBind CardValue)) where
   -- parts one by one
-  module _ (parts : List Part) (any : Bool) where
+  module _ (parts : List GuardPart) (any : Bool) where
     abbrev pub left_told : List CardAsk → ℕ → CardValue → Bool
     left_told asks i c = joined any (map (ask_value s vars c) asks ++ parts_told s vars (drop i parts) c)
 
     abbrev pub whole_told : CardValue → Bool
     whole_told c = joined any (parts_told s vars parts c)
 
-    part_here : (i : ℕ) (part : Part) (settled : Bool) (old new : List CardAsk) → i < length parts → part ≡ get_or parts i part →
+    part_here : (i : ℕ) (part : GuardPart) (settled : Bool) (old new : List CardAsk) → i < length parts → part ≡ get_or parts i part →
         IsJoined s vars (part_meant part) any settled old new → ((c : CardValue) → left_told old i c ≡ whole_told c) →
         (c : CardValue) → cond settled any (left_told new (i + 1) c) ≡ whole_told c
     part_here i part settled old new lt is h told = λ c.
         sym (h c (parts_told s vars (drop (i + 1) parts) c))
         ∙ ap (λ ps. joined any (map (ask_value s vars c) old ++ parts_told s vars ps c)) (sym (drop_here parts i part lt is)) ∙ told c
 
-    pub part_on : (i : ℕ) (part : Part) (settled : Bool) (old new : List CardAsk) → i < length parts → part ≡ get_or parts i part →
+    pub part_on : (i : ℕ) (part : GuardPart) (settled : Bool) (old new : List CardAsk) → i < length parts → part ≡ get_or parts i part →
         IsJoined s vars (part_meant part) any settled old new → ((c : CardValue) → left_told old i c ≡ whole_told c) → settled ≡ false →
         (c : CardValue) → left_told new (i + 1) c ≡ whole_told c
     part_on i part settled old new lt is h told not' = λ c.
         ap (λ b. cond b any (left_told new (i + 1) c)) (sym not') ∙ part_here i part settled old new lt is h told c
 
-    pub part_stop : (i : ℕ) (part : Part) (settled : Bool) (old new : List CardAsk) → i < length parts → part ≡ get_or parts i part →
+    pub part_stop : (i : ℕ) (part : GuardPart) (settled : Bool) (old new : List CardAsk) → i < length parts → part ≡ get_or parts i part →
         IsJoined s vars (part_meant part) any settled old new → ((c : CardValue) → left_told old i c ≡ whole_told c) → settled ≡ true →
         (c : CardValue) → whole_told c ≡ any
     part_stop i part settled old new lt is h told yes' = λ c.
@@ -112,11 +114,11 @@ module _ (s : PureScene CardValue) (vars : List (PureBind CardValue)) where
         ∙ ap (joined any) (append-nil (map (ask_value s vars c) asks))
 
   -- what a guard says, by its parts
-  parts_from : (c : CardValue) (parts : List Part) → tests_value s (vars ++ card_bound c ∷ []) (tests_from (map part_meant parts)) ≡ parts_told s vars parts c
+  parts_from : (c : CardValue) (parts : List GuardPart) → tests_value s (vars ++ card_bound c ∷ []) (tests_from (map part_meant parts)) ≡ parts_told s vars parts c
   parts_from c [] = refl
   parts_from c (part ∷ parts) = ap (λ bs. told_of s vars (part_meant part) c ∷ bs) (parts_from c parts)
 
-  told_by : (any : Bool) (c : CardValue) (parts : List Part) →
+  told_by : (any : Bool) (c : CardValue) (parts : List GuardPart) →
       told_of s vars (cond any (or_of (tests_from (map part_meant parts))) (and_of (tests_from (map part_meant parts)))) c ≡ joined any (parts_told s vars parts c)
   told_by true c parts = ap (list_any (λ b. b)) (parts_from c parts)
   told_by false c parts = ap (list_all (λ b. b)) (parts_from c parts)

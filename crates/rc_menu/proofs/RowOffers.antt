@@ -10,7 +10,7 @@ use Rattle.rc_ast.specs.Names.{loc_seen}
 use Rattle.rc_asked.specs.declared.guards.Guard.{Guard}
 use Rattle.rc_asked.specs.Guards.{guard_meant, IsGuardOf}
 use Rattle.rc_menu.specs.declared.asks.CardAsk.{CardAsk}
-use Rattle.rc_menu.specs.declared.asks.CardAsk.TheVariants.{Value, Wish, Whole}
+use Rattle.rc_menu.specs.declared.asks.CardAsk.TheVariants.{Value, CardTest, Whole}
 use Rattle.rc_menu.specs.declared.asks.Parts.{Parts}
 use Rattle.rc_menu.specs.Asks.{ask_value, asks_value, met_value, joined, told_of, IsInParts}
 use Rattle.rc_menu.proofs.Offers.{each_mapped, offered_if, same_offers}
@@ -20,7 +20,7 @@ module _ (s : PureScene CardValue) (vars : List (PureBind CardValue)) where
   met_all : (c : CardValue) (asks : List CardAsk) → list_all asks_value asks ≡ true → map (met_value (id_of c)) asks ≡ map (ask_value s vars c) asks
   met_all c [] sought = refl
   met_all c (Value value row ∷ asks) sought = ap (λ bs. met_value (id_of c) (Value value row) ∷ bs) (met_all c asks sought)
-  met_all c (Wish equal value row ∷ asks) sought = ap (λ bs. met_value (id_of c) (Wish equal value row) ∷ bs) (met_all c asks sought)
+  met_all c (CardTest equal value row ∷ asks) sought = ap (λ bs. met_value (id_of c) (CardTest equal value row) ∷ bs) (met_all c asks sought)
   met_all c (Whole t ∷ asks) sought = absurd (cc)
 
   pub row_offers : (asks : List CardAsk) (any sought : Bool) (ids : List ℕ) (cards : List CardValue) → sought ≡ list_all asks_value asks → sought ≡ true → ids ≡ map id_of cards →

@@ -6,9 +6,9 @@ use Rattle.rc_play_model.specs.Value.{Scene as PureScene, Bind as PureBind, card
 use Rattle.rc_play_model.specs.Scene.{CardValue, id_of}
 use Rattle.rc_ast.specs.Expressions.{test_seen}
 use Rattle.rc_asked.specs.Guards.{part_meant}
-use Rattle.rc_asked.specs.declared.guards.Part.{Part}
+use Rattle.rc_asked.specs.declared.guards.GuardPart.{GuardPart}
 use Rattle.rc_menu.specs.declared.asks.CardAsk.{CardAsk}
-use Rattle.rc_menu.specs.declared.asks.CardAsk.TheVariants.{Value, Wish, Whole}
+use Rattle.rc_menu.specs.declared.asks.CardAsk.TheVariants.{Value, CardTest, Whole}
 use Rattle.rc_menu.specs.declared.asks.Parts.{Parts}
 use Rattle.rc_value.specs.Depth.{test_depth}
 use Rattle.rc_value.specs.Wanted.{compares}
@@ -16,24 +16,24 @@ use Rattle.rc_value.specs.Wanted.{compares}
 -- the answer for a card that the innermost variable stands for
 abbrev pub ask_value : PureScene CardValue → List (PureBind CardValue) → CardValue → CardAsk → Bool
 ask_value s vars c (Value value row) = both nat_same (slice_index_or row.now (id_of c) None) (Some value)
-ask_value s vars c (Wish equal value row) = compares equal value (slice_index_or row.now (id_of c) None)
+ask_value s vars c (CardTest equal value row) = compares equal value (slice_index_or row.now (id_of c) None)
 ask_value s vars c (Whole t) = test_value s (vars ++ card_bound c ∷ []) (test_seen t.now)
 
 -- whether a card's value is all that is asked, and then the answer for the card with an id
 abbrev pub asks_value : CardAsk → Bool
 asks_value (Value value row) = true
-asks_value (Wish equal value row) = true
+asks_value (CardTest equal value row) = true
 asks_value (Whole t) = false
 
 abbrev pub met_value : ℕ → CardAsk → Bool
 met_value id (Value value row) = both nat_same (slice_index_or row.now id None) (Some value)
-met_value id (Wish equal value row) = compares equal value (slice_index_or row.now id None)
+met_value id (CardTest equal value row) = compares equal value (slice_index_or row.now id None)
 met_value id (Whole t) = false
 
 -- how many variables it binds, the innermost one counted
 abbrev pub ask_depth : CardAsk → ℕ
 ask_depth (Value value row) = 0
-ask_depth (Wish equal value row) = 0
+ask_depth (CardTest equal value row) = 0
 ask_depth (Whole t) = 1 + test_depth (test_seen t.now)
 
 -- whether a scope has room for all of them
@@ -49,7 +49,7 @@ abbrev pub told_of : PureScene CardValue → List (PureBind CardValue) → Test 
 told_of s vars t c = test_value s (vars ++ card_bound c ∷ []) t
 
 -- what parts of a guard say, of each card
-abbrev pub parts_told : PureScene CardValue → List (PureBind CardValue) → List Part → CardValue → List Bool
+abbrev pub parts_told : PureScene CardValue → List (PureBind CardValue) → List GuardPart → CardValue → List Bool
 parts_told s vars parts c = map (λ part. told_of s vars (part_meant part) c) parts
 
 -- a test joined to what was asked before it, and whatever is asked behind it: it settles all, or it is asked

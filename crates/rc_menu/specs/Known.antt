@@ -4,7 +4,7 @@ use Rattle.rc_sheet_model.specs.Sheet.{IntExpr, Test, Domain, all_of, any_of}
 use Rattle.rc_play_model.specs.Value.{Scene as PureScene, Bind as PureBind, int_value, test_value}
 use Rattle.rc_play_model.specs.Scene.{CardValue}
 use Rattle.rc_menu.specs.declared.known.AtHand.{AtHand}
-use Rattle.rc_menu.specs.declared.known.AtHand.TheVariants.{Wished, Holds, Unclear}
+use Rattle.rc_menu.specs.declared.known.AtHand.TheVariants.{OfCard, Holds, Unclear}
 use Rattle.rc_value.specs.Wanted.{IsWanted}
 
 -- a number that no variable owns
@@ -39,11 +39,11 @@ IsTurned opposite t t' = (s : PureScene CardValue) (vars : List (PureBind CardVa
 
 -- what is at hand of a test of the innermost variable's card
 abbrev pub IsAtHand : PureScene CardValue → List (PureBind CardValue) → Test → AtHand → Type 0
-IsAtHand s vars t (Wished wanted) = IsWanted s vars t wanted
+IsAtHand s vars t (OfCard wanted) = IsWanted s vars t wanted
 IsAtHand s vars t (Holds holds) = IsKnownAt s (length vars + 1) t holds
 IsAtHand s vars t Unclear = Unit {0}
 
 abbrev pub hand_turned : Bool → AtHand → AtHand
-hand_turned opposite (Wished wanted) = Wished (record { name = wanted.name; value = wanted.value; equal = turned opposite wanted.equal })
+hand_turned opposite (OfCard wanted) = OfCard (record { name = wanted.name; value = wanted.value; equal = turned opposite wanted.equal })
 hand_turned opposite (Holds holds) = Holds (turned opposite holds)
 hand_turned opposite Unclear = Unclear

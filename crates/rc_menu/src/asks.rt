@@ -15,10 +15,10 @@ use crate::known::{AtHand, at_hand};
 use arrayvec::ArrayVec;
 use rc_ast::Test;
 use rc_flow::test_reads;
-use rc_value::{Bind, Bindings, Card, Scene, Wanted, is_so, test_of, value_in, wanted_of};
+use rc_value::{Bind, Bindings, Card, Scene, WantedValue, is_so, test_of, value_in, wanted_of};
 
 /// What is asked of each card that the innermost variable stands for. Most guards ask for values, which stand apart
-/// from other wishes: for a value, or as a value is to be or not to be, in the row of all cards' values for an
+/// from other tests: for a value, or as a value is to be or not to be, in the row of all cards' values for an
 /// attribute.
 #[derive(Clone, Copy)]
 pub(crate) enum CardAsk<'t> {
@@ -26,7 +26,7 @@ pub(crate) enum CardAsk<'t> {
         value: u16,
         row: &'t [Option<u16>],
     },
-    Wish {
+    CardTest {
         equal: bool,
         value: Option<u16>,
         row: &'t [Option<u16>],
@@ -53,13 +53,13 @@ pub(crate) struct Parts {
 
 /// How a value is wanted, asked by the row of all cards' values.
 #[inline(always)]
-pub(crate) fn ask_in<'t>(row: &'t [Option<u16>], wanted: Wanted) -> CardAsk<'t>
+pub(crate) fn ask_in<'t>(row: &'t [Option<u16>], wanted: WantedValue) -> CardAsk<'t>
     ensures is { (id : ℕ) → met_value id result ≡ meets wanted (slice_index_or row.now id None) }
     ensures by_row { asks_value result ≡ true }
 {
     match wanted.value {
         Some(value) if wanted.equal => CardAsk::Value { value, row },
-        value => CardAsk::Wish {
+        value => CardAsk::CardTest {
             equal: wanted.equal,
             value,
             row,
@@ -70,7 +70,7 @@ pub(crate) fn ask_in<'t>(row: &'t [Option<u16>], wanted: Wanted) -> CardAsk<'t>
 // A test of which it is known which value the cards are to have. It is asked by the row of their values, and as a test
 // if there is none.
 #[inline(always)]
-fn ask_by<'t>(scene: &'t Scene, scope: &Bindings, wanted: Wanted, test: &'t Test) -> CardAsk<'t>
+fn ask_by<'t>(scene: &'t Scene, scope: &Bindings, wanted: WantedValue, test: &'t Test) -> CardAsk<'t>
     requires wanted { IsWanted (scene_seen scene.now) scope.now (test_seen test.now) wanted }
     requires deep { length scope.now + (1 + test_depth (test_seen test.now)) ≤ 5 }
     ensures is { (c : CardValue) → told_of (scene_seen scene.now) scope.now (test_seen test.now) c
@@ -111,7 +111,7 @@ fn answer(scene: &Scene, scope: &Bindings, ask: &CardAsk, card: Card) -> bool
 {
     match ask {
         CardAsk::Value { value, row } => has_value(*row, *value, card.id()),
-        CardAsk::Wish { equal, value, row } => is_so(*equal, *value, value_in(*row, card.id())),
+        CardAsk::CardTest { equal, value, row } => is_so(*equal, *value, value_in(*row, card.id())),
         CardAsk::Whole(test) => holds_for(scene, scope, *test, card),
     }
 }
@@ -164,7 +164,7 @@ fn settles<'t>(
     ensures fit { AllFit scope.now asks.new.items }
 {
     match at_hand(scene, scope, test) {
-        AtHand::Wished(wanted) => {
+        AtHand::OfCard(wanted) => {
             asks.push(ask_by(scene, scope, wanted, test));
             false
         }
@@ -294,7 +294,7 @@ fn is_sought(ask: &CardAsk) -> bool
 {
     match ask {
         CardAsk::Value { value: _, row: _ } => true,
-        CardAsk::Wish {
+        CardAsk::CardTest {
             equal: _,
             value: _,
             row: _,
@@ -322,7 +322,7 @@ fn is_met(ask: &CardAsk, id: u16) -> bool
 {
     match ask {
         CardAsk::Value { value, row } => has_value(*row, *value, id),
-        CardAsk::Wish { equal, value, row } => is_so(*equal, *value, value_in(*row, id)),
+        CardAsk::CardTest { equal, value, row } => is_so(*equal, *value, value_in(*row, id)),
         CardAsk::Whole(_) => false,
     }
 }

@@ -13,7 +13,7 @@ ghost use Rattle.rc_value.specs.Wanted.{wanted_value, IsFixedOwner};
 
 use rc_ast::{CollExpr, Domain, IntExpr, Loc, Test};
 use rc_value::{
-    Bindings, Scene, Wanted, all_met_in, all_one_by_one, cards_of, equal_at, ids_of,
+    Bindings, Scene, WantedValue, all_met_in, all_one_by_one, cards_of, equal_at, ids_of,
     is_fixed_collection, is_fixed_owner, number_at_hand, some_met_in, some_one_by_one, wanted_at,
 };
 
@@ -21,7 +21,7 @@ use rc_value::{
 /// holds for any card.
 #[derive(Clone, Copy)]
 pub(crate) enum AtHand {
-    Wished(Wanted),
+    OfCard(WantedValue),
     Holds(bool),
     Unclear,
 }
@@ -69,7 +69,7 @@ pub(crate) fn turned_if(opposite: bool, hand: AtHand) -> AtHand
     ensures { result ≡ hand_turned opposite hand }
 {
     match hand {
-        AtHand::Wished(wanted) => AtHand::Wished(Wanted {
+        AtHand::OfCard(wanted) => AtHand::OfCard(WantedValue {
             name: wanted.name,
             value: wanted.value,
             equal: wanted.equal != opposite,
@@ -86,18 +86,18 @@ fn plain_at_hand(scene: &Scene, scope: &Bindings, test: &Test) -> AtHand
     ensures { IsAtHand (scene_seen scene.now) scope.now (test_seen test.now) result }
 {
     match test {
-        Test::EqAttr(_, _, _, _) => wish_at_hand(scene, scope, test),
-        Test::Is(_, _, _) => wish_at_hand(scene, scope, test),
+        Test::EqAttr(_, _, _, _) => card_test_at_hand(scene, scope, test),
+        Test::Is(_, _, _) => card_test_at_hand(scene, scope, test),
         _ => known_at_hand(scene, scope, test),
     }
 }
 
 #[inline(always)]
-fn wish_at_hand(scene: &Scene, scope: &Bindings, test: &Test) -> AtHand
+fn card_test_at_hand(scene: &Scene, scope: &Bindings, test: &Test) -> AtHand
     ensures { IsAtHand (scene_seen scene.now) scope.now (test_seen test.now) result }
 {
     match equal_at(scene, scope, scope.len(), test) {
-        Some(wanted) => AtHand::Wished(wanted),
+        Some(wanted) => AtHand::OfCard(wanted),
         None => AtHand::Unclear,
     }
 }
@@ -284,7 +284,7 @@ fn any_known(
 
 // Whether all cards of a location are as they are wanted.
 #[inline(always)]
-fn all_there(scene: &Scene, scope: &Bindings, loc: &Loc, wanted: Wanted) -> bool
+fn all_there(scene: &Scene, scope: &Bindings, loc: &Loc, wanted: WantedValue) -> bool
     ensures { result ≡ list_all (wanted_value (scene_seen scene.now) wanted)
         (coll_value (scene_seen scene.now) scope.now (cards_in (loc_seen loc.now))) }
 {
@@ -296,7 +296,7 @@ fn all_there(scene: &Scene, scope: &Bindings, loc: &Loc, wanted: Wanted) -> bool
 
 /// Whether one of them is.
 #[inline(always)]
-pub(crate) fn some_there(scene: &Scene, scope: &Bindings, loc: &Loc, wanted: Wanted) -> bool
+pub(crate) fn some_there(scene: &Scene, scope: &Bindings, loc: &Loc, wanted: WantedValue) -> bool
     ensures { result ≡ list_any (wanted_value (scene_seen scene.now) wanted)
         (coll_value (scene_seen scene.now) scope.now (cards_in (loc_seen loc.now))) }
 {

@@ -4,7 +4,7 @@ ghost use Rattle.std.specs.Prelude.{◌≡◌, ℕ, ◌+◌, ◌<◌, ◌≤◌,
 ghost use Rattle.std.specs.List.{list_all};
 ghost use Rattle.rc_sheet_model.specs.Sheet.{Test as PureTest};
 ghost use Rattle.rc_play_model.specs.Scene.{CardValue};
-ghost use Rattle.rc_asked.specs.Guards.{in_sense, guard_meant, part_meant, question_meant, wish_meant, IsFixedGuard, IsFixedPart, IsFixedQuestion, IsFixedWish};
+ghost use Rattle.rc_asked.specs.Guards.{in_sense, guard_meant, part_meant, condition_meant, card_test_meant, IsFixedGuard, IsFixedPart, IsFixedCondition, IsFixedCardTest};
 ghost use Rattle.rc_menu.specs.Asks.{ask_value, asks_value, joined, parts_told, IsInParts, IsJoined};
 ghost use Rattle.rc_menu.specs.Known.{IsAtHand, IsTurned};
 ghost use Rattle.rc_value.specs.Scene.{scene_seen};
@@ -12,26 +12,26 @@ ghost use Rattle.rc_value.specs.Wanted.{IsWantedAt};
 
 use crate::asks::{Asks, Parts, ask_in};
 use crate::known::{AtHand, some_there, turned_if};
-use rc_asked::{Guard, Part, Question, Sense, Wish};
-use rc_value::{Bindings, Scene, Wanted, atom_holds, attr_of_id, top_id};
+use rc_asked::{Guard, GuardPart, Condition, Sense, CardTest};
+use rc_value::{Bindings, Scene, WantedValue, comparison_holds, attr_of_id, top_id};
 
 // The value that a card is to have.
 #[inline(always)]
-fn wanted_by(scene: &Scene, scope: &Bindings, wish: &Wish) -> Wanted
-    requires { IsFixedWish wish.now }
-    ensures { (place : ℕ) → IsWantedAt (scene_seen scene.now) place (wish_meant place wish.now) result }
+fn wanted_by(scene: &Scene, scope: &Bindings, card_test: &CardTest) -> WantedValue
+    requires { IsFixedCardTest card_test.now }
+    ensures { (place : ℕ) → IsWantedAt (scene_seen scene.now) place (card_test_meant place card_test.now) result }
 {
-    match wish {
-        Wish::Value { name, value } => Wanted {
+    match card_test {
+        CardTest::Value { name, value } => WantedValue {
             name: *name,
             value: Some(*value),
             equal: true,
         },
-        Wish::Against {
+        CardTest::Against {
             name,
             against,
             other,
-        } => Wanted {
+        } => WantedValue {
             name: *name,
             value: attr_of_id(scene, top_id(scene, scope, against), *other),
             equal: true,
@@ -39,22 +39,22 @@ fn wanted_by(scene: &Scene, scope: &Bindings, wish: &Wish) -> Wanted
     }
 }
 
-// What is at hand of a question.
+// What is at hand of a condition.
 #[inline(always)]
-fn question_at_hand(scene: &Scene, scope: &Bindings, question: &Question) -> AtHand
+fn condition_at_hand(scene: &Scene, scope: &Bindings, condition: &Condition) -> AtHand
     requires outside { scope.now ≡ [] }
-    requires fixed { IsFixedQuestion question.now }
-    ensures { IsAtHand (scene_seen scene.now) scope.now (question_meant question.now) result }
+    requires fixed { IsFixedCondition condition.now }
+    ensures { IsAtHand (scene_seen scene.now) scope.now (condition_meant condition.now) result }
 {
-    match question {
-        Question::Known(atom) => AtHand::Holds(atom_holds(scene, scope, atom)),
-        Question::Wished(wish) => AtHand::Wished(wanted_by(scene, scope, wish)),
-        Question::Some {
+    match condition {
+        Condition::Known(comparison) => AtHand::Holds(comparison_holds(scene, scope, comparison)),
+        Condition::OfCard(card_test) => AtHand::OfCard(wanted_by(scene, scope, card_test)),
+        Condition::Some {
             among,
             bound: _,
-            wish,
+            card_test,
         } => {
-            let wanted = wanted_by(scene, scope, wish);
+            let wanted = wanted_by(scene, scope, card_test);
             AtHand::Holds(some_there(scene, scope, among, wanted))
         }
     }
@@ -73,12 +73,12 @@ fn is_opposite(sense: Sense) -> bool
 
 // What is at hand of a part.
 #[inline(always)]
-fn part_at_hand(scene: &Scene, scope: &Bindings, part: &Part) -> AtHand
+fn part_at_hand(scene: &Scene, scope: &Bindings, part: &GuardPart) -> AtHand
     requires outside { scope.now ≡ [] }
     requires fixed { IsFixedPart part.now }
     ensures { IsAtHand (scene_seen scene.now) scope.now (part_meant part.now) result }
 {
-    let hand = question_at_hand(scene, scope, &part.question);
+    let hand = condition_at_hand(scene, scope, &part.condition);
     turned_if(is_opposite(part.sense), hand)
 }
 
@@ -87,7 +87,7 @@ fn part_at_hand(scene: &Scene, scope: &Bindings, part: &Part) -> AtHand
 fn part_settles<'t>(
     scene: &'t Scene,
     scope: &Bindings,
-    part: &Part,
+    part: &GuardPart,
     any: bool,
     asks: &mut Asks<'t>,
 ) -> Option<bool>
@@ -101,7 +101,7 @@ fn part_settles<'t>(
     ensures sought { list_all asks_value asks.new.items ≡ true }
 {
     match part_at_hand(scene, scope, part) {
-        AtHand::Wished(wanted) => match scene.lookup.values(wanted.name) {
+        AtHand::OfCard(wanted) => match scene.lookup.values(wanted.name) {
             Some(row) => {
                 asks.push(ask_in(row, wanted));
                 Some(false)
@@ -118,7 +118,7 @@ fn part_settles<'t>(
 fn parts_settle<'t>(
     scene: &'t Scene,
     scope: &Bindings,
-    parts: &[Part],
+    parts: &[GuardPart],
     any: bool,
     asks: &mut Asks<'t>,
 ) -> Option<bool>

@@ -9,7 +9,7 @@ ghost use Rattle.rc_stand.specs.State.{IsReady, config_at, LeadsTo};
 
 use crate::state::State;
 use crate::there::{behind, stage_there};
-use rc_asked::Asked;
+use rc_asked::CompiledTest;
 use rc_ast::Class;
 use rc_code::Instruction;
 use rc_rules::{About, Stop};
@@ -39,7 +39,7 @@ impl State {
         about: &About,
         code: &[Instruction],
         place: usize,
-        end: &Asked,
+        end: &CompiledTest,
         inside: usize,
     ) -> Option<Stop>
         requires ready { IsReady about.now (list_seen code.now) self.old }

@@ -8,7 +8,7 @@ ghost use Rattle.rc_rules.specs.Control.{frames_seen, control_seen};
 ghost use Rattle.rc_value.specs.Current.{IsCurrent};
 
 use crate::place::Position;
-use rc_asked::Asked;
+use rc_asked::CompiledTest;
 use rc_board::Board;
 use rc_rules::{About, Control, Items, Scores};
 use rc_state::{has_ended_by, scores_now};
@@ -39,7 +39,7 @@ impl State {
 
     /// Whether the end test of a stage holds.
     #[inline(always)]
-    pub fn ends(&self, about: &About, end: &Asked) -> bool
+    pub fn ends(&self, about: &About, end: &CompiledTest) -> bool
         requires laid { self.now.board.laid.shape ≡ about.now.shape }
         requires current { IsCurrent about.now.sheet (frames_seen self.now.control.frames.items) self.now.current }
         requires well { (around : Around) × (around.binders ≡ 0) × IsTest about.now.sheet around end.now }

@@ -6,7 +6,7 @@ ghost use Rattle.rc_code.specs.Seen.{block_seen, instruction_seen, list_seen};
 ghost use Rattle.rc_stand.specs.Places.{IsStageAt};
 ghost use Rattle.rc_stand.specs.Flat.{IsChoiceAt};
 
-use rc_asked::{Asked, Offer};
+use rc_asked::{CompiledTest, Offer};
 use rc_ast::Class;
 use rc_code::{Block, Instruction};
 
@@ -14,7 +14,7 @@ use rc_code::{Block, Instruction};
 #[derive(Drop)]
 pub struct StageThere<'c> {
     pub class: Class,
-    pub end: &'c Asked,
+    pub end: &'c CompiledTest,
     pub inside: usize,
 }
 

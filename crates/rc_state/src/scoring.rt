@@ -10,7 +10,7 @@ ghost use Rattle.rc_value.specs.Current.{IsCurrent};
 ghost use Rattle.rc_value.specs.Depth.{int_depth};
 ghost use Rattle.rc_value.specs.Scene.{scene_seen};
 
-use rc_asked::{Asked, Flat};
+use rc_asked::{CompiledTest, FlatTest};
 use rc_ast::{IntExpr, Test};
 use rc_rules::{About, Control, Scores};
 use rc_table::Table;
@@ -37,7 +37,7 @@ pub fn has_ended_by(
     current: Current,
     table: &Table,
     control: &Control,
-    end: &Asked,
+    end: &CompiledTest,
 ) -> bool
     requires laid { table.now.shape ≡ about.now.shape }
     requires current { IsCurrent about.now.sheet (frames_seen control.now.frames.items) current }
@@ -53,7 +53,7 @@ pub fn has_ended_by(
         current,
     );
     match end.flat() {
-        Some(Flat::EachHas { name, count, .. }) => each_has(&scene, *name, *count),
+        Some(FlatTest::EachHas { name, count, .. }) => each_has(&scene, *name, *count),
         _ => has_ended_asked(about, current, table, control, end.test()),
     }
 }

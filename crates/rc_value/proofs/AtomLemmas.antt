@@ -3,12 +3,12 @@ use Rattle.std.proofs.Common.{◌≡◌, refl, List}
 use Rattle.rc_sheet_model.specs.Sheet.{IntExpr}
 use Rattle.rc_play_model.specs.Value.{Scene as PureScene, Bind as PureBind, int_value, test_value}
 use Rattle.rc_play_model.specs.Scene.{CardValue}
-use Rattle.rc_asked.specs.declared.atoms.Comparison.{Comparison}
-use Rattle.rc_asked.specs.declared.atoms.Comparison.TheVariants.{Equal, Less, AtMost, More, AtLeast}
+use Rattle.rc_asked.specs.declared.atoms.Comparator.{Comparator}
+use Rattle.rc_asked.specs.declared.atoms.Comparator.TheVariants.{Equal, Less, AtMost, More, AtLeast}
 use Rattle.rc_asked.specs.Meaning.{compared}
 use Rattle.rc_value.specs.Comparing.{compare}
 
-pub compared_is : (s : PureScene CardValue) (vars : List (PureBind CardValue)) (how : Comparison) (a b : IntExpr) →
+pub compared_is : (s : PureScene CardValue) (vars : List (PureBind CardValue)) (how : Comparator) (a b : IntExpr) →
     compare how (int_value s vars a) (int_value s vars b) ≡ test_value s vars (compared how a b)
 compared_is s vars Equal a b = refl
 compared_is s vars Less a b = refl

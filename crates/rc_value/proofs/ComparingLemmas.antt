@@ -12,7 +12,7 @@ use Rattle.rc_play_model.specs.Scene.{CardValue}
 use Rattle.rc_play_model.specs.Value.{Scene as PureScene, Bind as PureBind, Known, player_bound, player_of, who_value, num_place, number_there, int_value, test_value}
 use Rattle.rc_flow.specs.Reads.{reads_who}
 use Rattle.rc_flow.proofs.Unread.{other_place}
-use Rattle.rc_asked.specs.declared.atoms.Comparison.{Comparison}
+use Rattle.rc_asked.specs.declared.atoms.Comparator.{Comparator}
 use Rattle.rc_value.specs.declared.comparing.Suited.{Suited}
 use Rattle.rc_value.specs.Comparing.{compare, number_held, suits, ArePaired, IsHisNumber, IsSameForAll, IsSuited}
 use Rattle.rc_value.proofs.HoldingLemmas.{his}
@@ -55,7 +55,7 @@ module _ (s : PureScene CardValue) (vars : List (PureBind CardValue)) where
       ∙ sym here
 
   -- two numbers, of which the first is his
-  module _ (a b : IntExpr) (place name : ℕ) (how : Comparison) (count : place ≡ length vars) where
+  module _ (a b : IntExpr) (place name : ℕ) (how : Comparator) (count : place ≡ length vars) where
     pub paired_his : (w : Option Suited) → IsHisNumber place a name →
         IfSome w (λ w. (w.name ≡ name) × (w.how ≡ how) × IsSameForAll s vars b w.against) → IfSome w (ArePaired s vars a how b)
     paired_his None own told = told
@@ -64,7 +64,7 @@ module _ (s : PureScene CardValue) (vars : List (PureBind CardValue)) where
         ∙ ap₂ (λ h n. compare h (number_held s n player) w.against) (sym told.1) (sym told.0)
 
   -- a test of them
-  pub suited_is : (t : Test) (a b : IntExpr) (how : Comparison) (w : Option Suited) →
+  pub suited_is : (t : Test) (a b : IntExpr) (how : Comparator) (w : Option Suited) →
       ((vars : List (PureBind CardValue)) → test_value s vars t ≡ compare how (int_value s vars a) (int_value s vars b)) →
       IfSome w (ArePaired s vars a how b) → IfSome w (IsSuited s vars t)
   suited_is t a b how None same told = told

@@ -13,7 +13,7 @@ use Rattle.rc_play_model.specs.Value.{attr_of_any, cut, worth, worth_of_any}
 use Rattle.rc_rules.specs.Lookup.{rows_seen, value_row}
 use Rattle.rc_rules.proofs.Rows.{in_row, row_below}
 use Rattle.rc_value.specs.declared.scene.Scene.{Scene}
-use Rattle.rc_value.specs.declared.wanted.Wanted.{Wanted}
+use Rattle.rc_value.specs.declared.wanted.WantedValue.{WantedValue}
 use Rattle.rc_value.specs.Scene.{scene_seen}
 use Rattle.rc_value.specs.Seen.{read_in}
 use Rattle.rc_value.specs.Wanted.{meets, wanted_value}
@@ -75,26 +75,26 @@ row_value s name id row here =
     ap (λ r. slice_index_or r id None) (row_below (value_row faces) (length rows) name row there)
     ∙ in_row (λ face. value_at face name) [] None refl faces id
 
-pub met_in_row : (s : Scene) (w : Wanted) (c : CardValue) (row : List (Option ℕ)) → Some row ≡ slice_get (rows_seen s.lookup.now.values.items) w.name →
+pub met_in_row : (s : Scene) (w : WantedValue) (c : CardValue) (row : List (Option ℕ)) → Some row ≡ slice_get (rows_seen s.lookup.now.values.items) w.name →
     meets w (slice_index_or row (id_of c) None) ≡ wanted_value (scene_seen s) w c
 unfolding scene_seen
 met_in_row s w c row here = ap (meets w) (row_value s w.name (id_of c) row here)
 
-pub all_met : (s : Scene) (w : Wanted) (row : List (Option ℕ)) (ids : List ℕ) (cards : List CardValue) →
+pub all_met : (s : Scene) (w : WantedValue) (row : List (Option ℕ)) (ids : List ℕ) (cards : List CardValue) →
     Some row ≡ slice_get (rows_seen s.lookup.now.values.items) w.name → ids ≡ map id_of cards →
     list_all (λ id. meets w (slice_index_or row id None)) ids ≡ list_all (wanted_value (scene_seen s) w) cards
 all_met s w row ids cards here are =
     ap (list_all (λ id. meets w (slice_index_or row id None))) are ∙ all-map (λ id. meets w (slice_index_or row id None)) id_of cards
     ∙ ap (λ f. list_all f cards) (fun_ext (λ c. met_in_row s w c row here))
 
-pub some_met : (s : Scene) (w : Wanted) (row : List (Option ℕ)) (ids : List ℕ) (cards : List CardValue) →
+pub some_met : (s : Scene) (w : WantedValue) (row : List (Option ℕ)) (ids : List ℕ) (cards : List CardValue) →
     Some row ≡ slice_get (rows_seen s.lookup.now.values.items) w.name → ids ≡ map id_of cards →
     list_any (λ id. meets w (slice_index_or row id None)) ids ≡ list_any (wanted_value (scene_seen s) w) cards
 some_met s w row ids cards here are =
     ap (list_any (λ id. meets w (slice_index_or row id None))) are ∙ any-map (λ id. meets w (slice_index_or row id None)) id_of cards
     ∙ ap (λ f. list_any f cards) (fun_ext (λ c. met_in_row s w c row here))
 
-pub count_met : (s : Scene) (w : Wanted) (row : List (Option ℕ)) (ids : List ℕ) (cards : List CardValue) →
+pub count_met : (s : Scene) (w : WantedValue) (row : List (Option ℕ)) (ids : List ℕ) (cards : List CardValue) →
     Some row ≡ slice_get (rows_seen s.lookup.now.values.items) w.name → ids ≡ map id_of cards →
     length (filter (λ id. meets w (slice_index_or row id None)) ids) ≡ length (filter (wanted_value (scene_seen s) w) cards)
 count_met s w row ids cards here are =

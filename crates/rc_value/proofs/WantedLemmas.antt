@@ -12,7 +12,7 @@ use Rattle.rc_play_model.specs.Scene.{CardValue}
 use Rattle.rc_play_model.specs.Value.{Scene as PureScene, Bind as PureBind, card_bound, player_bound, both, nat_same, card_of, attr_of_any, cards_there, cut, last_of, card_value, coll_value, test_value}
 use Rattle.rc_flow.specs.Reads.{reads_card}
 use Rattle.rc_flow.proofs.Unread.{unread_card}
-use Rattle.rc_value.specs.declared.wanted.Wanted.{Wanted}
+use Rattle.rc_value.specs.declared.wanted.WantedValue.{WantedValue}
 use Rattle.rc_value.specs.Wanted.{wanted_value, IsFixed, IsFixedCollection, IsFixedOwner, IsWanted, IsWantedAt}
 use Rattle.rc_value.specs.Sought.{has_face}
 use Rattle.rc_play_model.specs.Shape.{face_eq}
@@ -84,13 +84,13 @@ module _ (s : PureScene CardValue) (vars : List (PureBind CardValue)) where
       ap (test_value s (vars ++ card_bound c ∷ [])) is
       ∙ ap (λ x. both nat_same (attr_of_any s name x) (Some value)) (variable_is c a variable)
 
-  pub all_wanted : (t : Test) (w : Wanted) (cards : List CardValue) → IsWanted s vars t w →
+  pub all_wanted : (t : Test) (w : WantedValue) (cards : List CardValue) → IsWanted s vars t w →
       list_all (wanted_value s w) cards ≡ list_all (λ m. test_value s (vars ++ m ∷ []) t) (map (λ c. card_bound c) cards)
   all_wanted t w cards h =
       ap (λ f. list_all f cards) (fun_ext (λ c. sym (h c)))
       ∙ sym (all-map (λ m. test_value s (vars ++ m ∷ []) t) (λ c. card_bound c) cards)
 
-  pub any_wanted : (t : Test) (w : Wanted) (cards : List CardValue) → IsWanted s vars t w →
+  pub any_wanted : (t : Test) (w : WantedValue) (cards : List CardValue) → IsWanted s vars t w →
       list_any (wanted_value s w) cards ≡ list_any (λ m. test_value s (vars ++ m ∷ []) t) (map (λ c. card_bound c) cards)
   any_wanted t w cards h =
       ap (λ f. list_any f cards) (fun_ext (λ c. sym (h c)))
@@ -132,12 +132,12 @@ module _ (s : PureScene CardValue) (vars : List (PureBind CardValue)) where
 
 -- the same in all scopes of so many variables
 module _ (s : PureScene CardValue) (place : ℕ) where
-  abbrev some_or : Wanted → Option Wanted → Wanted
+  abbrev some_or : WantedValue → Option WantedValue → WantedValue
   some_or d None = d
   some_or d (Some x) = x
 
   -- by a card that is the same whatever variables stand for
-  pub wanted_fixed : (here : List (PureBind CardValue)) (t : Test) (a b : CardExpr) (name other : ℕ) (value : Option (Option ℕ)) (w : Option Wanted) → t ≡ eq_attr a name b other →
+  pub wanted_fixed : (here : List (PureBind CardValue)) (t : Test) (a b : CardExpr) (name other : ℕ) (value : Option (Option ℕ)) (w : Option WantedValue) → t ≡ eq_attr a name b other →
       a ≡ card_var place → IsFixed b → IfSome value (λ v. v ≡ attr_of_any s other (card_value s here b)) →
       w ≡ option_map (λ v. record { name = name; value = v; equal = true }) value → IfSome w (IsWantedAt s place t)
   wanted_fixed here t a b name other None None is variable fixed h e = h
@@ -150,12 +150,12 @@ module _ (s : PureScene CardValue) (place : ℕ) where
       ∙ ap (λ o. wanted_value s (some_or w o) c) (sym e)
 
   -- by a value that the sheet names
-  pub wanted_named : (t : Test) (a : CardExpr) (name value : ℕ) (w : Option Wanted) → t ≡ has_value a name value → a ≡ card_var place →
+  pub wanted_named : (t : Test) (a : CardExpr) (name value : ℕ) (w : Option WantedValue) → t ≡ has_value a name value → a ≡ card_var place →
       w ≡ Some (record { name = name; value = Some value; equal = true }) → IfSome w (IsWantedAt s place t)
   wanted_named t a name value w is variable e =
       subst (λ w. IfSome w (IsWantedAt s place t)) (sym e) (λ vars count. value_is s vars t a name value is (variable ∙ ap card_var (sym count)))
 
   -- in one of them
-  pub wanted_here : (vars : List (PureBind CardValue)) (t : Test) (w : Option Wanted) → place ≡ length vars → IfSome w (IsWantedAt s place t) → IfSome w (IsWanted s vars t)
+  pub wanted_here : (vars : List (PureBind CardValue)) (t : Test) (w : Option WantedValue) → place ≡ length vars → IfSome w (IsWantedAt s place t) → IfSome w (IsWanted s vars t)
   wanted_here vars t None count h = h
   wanted_here vars t (Some w) count h = h vars (sym count)

@@ -5,12 +5,12 @@ use Rattle.rc_sheet_model.specs.Sheet.{player_class, IntExpr, Test}
 use Rattle.rc_play_model.specs.Owners.{place_among}
 use Rattle.rc_play_model.specs.Value.{Scene as PureScene, Bind as PureBind, player_bound, number_there, int_value, test_value}
 use Rattle.rc_play_model.specs.Scene.{CardValue}
-use Rattle.rc_asked.specs.declared.atoms.Comparison.{Comparison}
-use Rattle.rc_asked.specs.declared.atoms.Comparison.TheVariants.{Equal, Less, AtMost, More, AtLeast}
+use Rattle.rc_asked.specs.declared.atoms.Comparator.{Comparator}
+use Rattle.rc_asked.specs.declared.atoms.Comparator.TheVariants.{Equal, Less, AtMost, More, AtLeast}
 use Rattle.rc_value.specs.declared.comparing.Suited.{Suited}
 
 -- whether a number compares so with another
-abbrev pub compare : Comparison → ℤ → ℤ → Bool
+abbrev pub compare : Comparator → ℤ → ℤ → Bool
 compare Equal one other = int_eq one other
 compare Less one other = int_lt one other
 compare AtMost one other = int_le one other
@@ -18,7 +18,7 @@ compare More one other = int_lt other one
 compare AtLeast one other = int_le other one
 
 -- the same comparison, told of the other number
-abbrev pub turned : Comparison → Comparison
+abbrev pub turned : Comparator → Comparator
 turned Equal = Equal
 turned Less = More
 turned AtMost = AtLeast
@@ -45,7 +45,7 @@ abbrev pub IsSameForAll : PureScene CardValue → List (PureBind CardValue) → 
 IsSameForAll s vars e n = (m : PureBind CardValue) → int_value s (vars ++ m ∷ []) e ≡ n
 
 -- two numbers, which compare so where his number is as it is to be
-abbrev pub ArePaired : PureScene CardValue → List (PureBind CardValue) → IntExpr → Comparison → IntExpr → Suited → Type 0
+abbrev pub ArePaired : PureScene CardValue → List (PureBind CardValue) → IntExpr → Comparator → IntExpr → Suited → Type 0
 ArePaired s vars a how b w =
     (player : ℕ) → compare how (int_value s (vars ++ player_bound player ∷ []) a) (int_value s (vars ++ player_bound player ∷ []) b) ≡ suits s w player
 

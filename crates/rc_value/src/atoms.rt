@@ -1,7 +1,7 @@
 //! Comparisons in flat form, which are read off the table with no walk over a tree.
 ghost use Rattle.std.specs.Prelude.{◌≡◌};
 ghost use Rattle.rc_play_model.specs.Value.{int_value, test_value};
-ghost use Rattle.rc_asked.specs.Meaning.{amount_meant, atom_meant};
+ghost use Rattle.rc_asked.specs.Meaning.{amount_meant, comparison_meant};
 ghost use Rattle.rc_value.specs.Scene.{scene_seen};
 
 use crate::comparing::compare;
@@ -9,7 +9,7 @@ use crate::leaves::{attr_of_id, number_of, worth_of_id};
 use crate::rows::{ids_of, top_id};
 use crate::scene::Scene;
 use crate::scope::Bindings;
-use rc_asked::{Amount, Atom};
+use rc_asked::{Amount, Comparison};
 
 // The number that a flat form stands for.
 #[inline(always)]
@@ -27,16 +27,16 @@ fn amount_of(scene: &Scene, scope: &Bindings, amount: &Amount) -> i64
 /// Whether a comparison holds.
 #[tactic(auto, using(crate::proofs::AtomLemmas::compared_is))]
 #[inline(always)]
-pub fn atom_holds(scene: &Scene, scope: &Bindings, atom: &Atom) -> bool
-    ensures { result ≡ test_value (scene_seen scene.now) scope.now (atom_meant atom.now) }
+pub fn comparison_holds(scene: &Scene, scope: &Bindings, comparison: &Comparison) -> bool
+    ensures { result ≡ test_value (scene_seen scene.now) scope.now (comparison_meant comparison.now) }
 {
-    match atom {
-        Atom::Compare { how, one, other } => {
+    match comparison {
+        Comparison::Compare { how, one, other } => {
             let one = amount_of(scene, scope, one);
             let other = amount_of(scene, scope, other);
             compare(*how, one, other)
         }
-        Atom::Same {
+        Comparison::Same {
             one,
             name,
             other,

@@ -13,14 +13,14 @@ ghost use Rattle.rc_value.specs.Scene.{scene_seen};
 use crate::leaves::number_of;
 use crate::scene::Scene;
 use crate::scope::Bindings;
-use rc_asked::Comparison;
+use rc_asked::Comparator;
 use rc_ast::{Class, IntExpr, Num, Test, Who};
 
 /// How a player's number of a name is to compare with a number that is the same for all players.
 #[derive(Clone, Copy)]
 pub(crate) struct Suited {
     pub(crate) name: u16,
-    pub(crate) how: Comparison,
+    pub(crate) how: Comparator,
     pub(crate) against: i64,
 }
 
@@ -30,11 +30,11 @@ pub(crate) fn suited_of(scene: &Scene, scope: &Bindings, test: &Test) -> Option<
     ensures { IfSome result (IsSuited (scene_seen scene.now) scope.now (test_seen test.now)) }
 {
     match test {
-        Test::EqInt(a, b) => paired(scene, scope, a, Comparison::Equal, b),
-        Test::Less(a, b) => paired(scene, scope, a, Comparison::Less, b),
-        Test::LessEq(a, b) => paired(scene, scope, a, Comparison::AtMost, b),
-        Test::More(a, b) => paired(scene, scope, a, Comparison::More, b),
-        Test::MoreEq(a, b) => paired(scene, scope, a, Comparison::AtLeast, b),
+        Test::EqInt(a, b) => paired(scene, scope, a, Comparator::Equal, b),
+        Test::Less(a, b) => paired(scene, scope, a, Comparator::Less, b),
+        Test::LessEq(a, b) => paired(scene, scope, a, Comparator::AtMost, b),
+        Test::More(a, b) => paired(scene, scope, a, Comparator::More, b),
+        Test::MoreEq(a, b) => paired(scene, scope, a, Comparator::AtLeast, b),
         _ => None,
     }
 }
@@ -45,7 +45,7 @@ fn paired(
     scene: &Scene,
     scope: &Bindings,
     a: &IntExpr,
-    how: Comparison,
+    how: Comparator,
     b: &IntExpr,
 ) -> Option<Suited>
     ensures { IfSome result (ArePaired (scene_seen scene.now) scope.now (int_seen a.now) how (int_seen b.now)) }
@@ -61,15 +61,15 @@ fn paired(
 
 // The same comparison, told of the other number.
 #[inline(always)]
-fn turned(how: Comparison) -> Comparison
+fn turned(how: Comparator) -> Comparator
     ensures { result ≡ turned how }
 {
     match how {
-        Comparison::Equal => Comparison::Equal,
-        Comparison::Less => Comparison::More,
-        Comparison::AtMost => Comparison::AtLeast,
-        Comparison::More => Comparison::Less,
-        Comparison::AtLeast => Comparison::AtMost,
+        Comparator::Equal => Comparator::Equal,
+        Comparator::Less => Comparator::More,
+        Comparator::AtMost => Comparator::AtLeast,
+        Comparator::More => Comparator::Less,
+        Comparator::AtLeast => Comparator::AtMost,
     }
 }
 
@@ -79,7 +79,7 @@ fn against(
     scene: &Scene,
     scope: &Bindings,
     name: u16,
-    how: Comparison,
+    how: Comparator,
     other: &IntExpr,
 ) -> Option<Suited>
     ensures { IfSome result (λ s. (s.name ≡ name) × (s.how ≡ how)
@@ -192,14 +192,14 @@ fn held(scene: &Scene, name: u16, player: u8) -> i64
 
 /// Whether one number compares so with another.
 #[inline(always)]
-pub(crate) fn compare(how: Comparison, one: i64, other: i64) -> bool
+pub(crate) fn compare(how: Comparator, one: i64, other: i64) -> bool
     ensures { result ≡ compare how one other }
 {
     match how {
-        Comparison::Equal => one == other,
-        Comparison::Less => one < other,
-        Comparison::AtMost => one <= other,
-        Comparison::More => other < one,
-        Comparison::AtLeast => other <= one,
+        Comparator::Equal => one == other,
+        Comparator::Less => one < other,
+        Comparator::AtMost => one <= other,
+        Comparator::More => other < one,
+        Comparator::AtLeast => other <= one,
     }
 }

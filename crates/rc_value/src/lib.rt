@@ -24,7 +24,7 @@ mod tests;
 mod wanted;
 
 pub use arithmetic::{clamped_difference, clamped_product, clamped_sum};
-pub use atoms::atom_holds;
+pub use atoms::comparison_holds;
 pub use binding::expressions_bind_few;
 pub use cards::{Card, Cards};
 pub use collection::Collection;
@@ -40,6 +40,6 @@ pub use scene::Scene;
 pub use scope::{Bind, Bindings};
 pub use tests::{test_of, wanted_of};
 pub use wanted::{
-    Wanted, all_met_in, all_one_by_one, equal_at, is_fixed_collection, is_fixed_owner, is_so,
+    WantedValue, all_met_in, all_one_by_one, equal_at, is_fixed_collection, is_fixed_owner, is_so,
     some_met_in, some_one_by_one, wanted_at,
 };

@@ -10,7 +10,7 @@ use crate::collection::Collection;
 use crate::leaves::are_same;
 use crate::loops::{card_at, keep};
 use crate::scene::Scene;
-use crate::wanted::{Wanted, all_as_wanted, count_met_in, counted, is_as_wanted, some_as_wanted};
+use crate::wanted::{WantedValue, all_as_wanted, count_met_in, counted, is_as_wanted, some_as_wanted};
 use crate::{Card, Cards};
 
 /// A card whose face others are to have, or not to have. Where there is none, no card has its face.
@@ -23,7 +23,7 @@ pub(crate) struct Likeness {
 /// What a test asks of a card, where all else that it reads is the same for each card.
 #[derive(Clone, Copy)]
 pub(crate) enum Sought {
-    Value(Wanted),
+    Value(WantedValue),
     Face(Likeness),
 }
 
@@ -53,7 +53,7 @@ pub(crate) fn opposite(sought: Option<Sought>) -> Option<Sought>
     ensures { result ≡ option_map reversed sought }
 {
     match sought {
-        Some(Sought::Value(wanted)) => Some(Sought::Value(Wanted {
+        Some(Sought::Value(wanted)) => Some(Sought::Value(WantedValue {
             name: wanted.name,
             value: wanted.value,
             equal: !wanted.equal,

@@ -20,7 +20,7 @@ use crate::scene::Scene;
 use crate::scope::{Bind, Bindings};
 use crate::sought::{Likeness, Sought, all_as_sought, opposite, some_as_sought};
 use crate::wanted::{
-    Wanted, all_as_wanted, is_against, is_variable, some_as_wanted, unwanted, wanted_at_hand,
+    WantedValue, all_as_wanted, is_against, is_variable, some_as_wanted, unwanted, wanted_at_hand,
 };
 use crate::{Card, Cards};
 use rc_ast::{CardExpr, CollExpr, Domain, Test};
@@ -131,7 +131,7 @@ fn over_cards(scene: &Scene, scope: &Bindings, expr: &Test) -> bool
 /// A test of the innermost variable's card as a value that the card is to have, if it is one. What the card's value is
 /// compared with doesn't read the variable: so it is taken once for all cards.
 #[cycle(values)]
-pub fn wanted_of(scene: &Scene, scope: &Bindings, inside: &Bindings, test: &Test) -> Option<Wanted>
+pub fn wanted_of(scene: &Scene, scope: &Bindings, inside: &Bindings, test: &Test) -> Option<WantedValue>
     requires inside { inside.now ≡ scope.now ++ player_bound 0 ∷ [] }
     requires fits { length scope.now + (1 + test_depth (test_seen test.now)) ≤ 5 }
     ensures { IfSome result (IsWanted (scene_seen scene.now) scope.now (test_seen test.now)) }
@@ -140,7 +140,7 @@ pub fn wanted_of(scene: &Scene, scope: &Bindings, inside: &Bindings, test: &Test
         Test::EqAttr(_, _, _, _) => wanted_against(scene, scope, inside, test),
         Test::Is(card, name, value) => {
             if is_variable(card, scope.len()) {
-                return Some(Wanted {
+                return Some(WantedValue {
                     name: *name,
                     value: Some(*value),
                     equal: true,
@@ -157,7 +157,7 @@ pub fn wanted_of(scene: &Scene, scope: &Bindings, inside: &Bindings, test: &Test
 // The same of an opposite.
 #[cycle(values)]
 #[inline(never)]
-fn wanted_not(scene: &Scene, scope: &Bindings, inside: &Bindings, test: &Test) -> Option<Wanted>
+fn wanted_not(scene: &Scene, scope: &Bindings, inside: &Bindings, test: &Test) -> Option<WantedValue>
     requires inside { inside.now ≡ scope.now ++ player_bound 0 ∷ [] }
     requires fits { length scope.now + (1 + test_depth (test_seen test.now)) ≤ 5 }
     ensures { IfSome result (IsWanted (scene_seen scene.now) scope.now (test_seen test.now)) }
@@ -172,7 +172,7 @@ fn wanted_not(scene: &Scene, scope: &Bindings, inside: &Bindings, test: &Test) -
 // Two values, of which one is the innermost variable's card's.
 #[cycle(values)]
 #[inline(never)]
-fn wanted_against(scene: &Scene, scope: &Bindings, inside: &Bindings, test: &Test) -> Option<Wanted>
+fn wanted_against(scene: &Scene, scope: &Bindings, inside: &Bindings, test: &Test) -> Option<WantedValue>
     requires inside { inside.now ≡ scope.now ++ player_bound 0 ∷ [] }
     requires fits { length scope.now + (1 + test_depth (test_seen test.now)) ≤ 5 }
     ensures { IfSome result (IsWanted (scene_seen scene.now) scope.now (test_seen test.now)) }
@@ -180,14 +180,14 @@ fn wanted_against(scene: &Scene, scope: &Bindings, inside: &Bindings, test: &Tes
     match test {
         Test::EqAttr(a, name, b, other) => {
             if is_against(a, b, scope.len()) {
-                return Some(Wanted {
+                return Some(WantedValue {
                     name: *name,
                     value: value_once(scene, scope, inside, b, *other),
                     equal: true,
                 });
             }
             if is_against(b, a, scope.len()) {
-                return Some(Wanted {
+                return Some(WantedValue {
                     name: *other,
                     value: value_once(scene, scope, inside, a, *name),
                     equal: true,

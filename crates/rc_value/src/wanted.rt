@@ -22,7 +22,7 @@ use rc_flow::card_reads;
 
 /// A value for an attribute that a card is to have, or not to have.
 #[derive(Clone, Copy)]
-pub struct Wanted {
+pub struct WantedValue {
     pub name: u16,
     pub value: Option<u16>,
     pub equal: bool,
@@ -42,7 +42,7 @@ pub fn is_so(equal: bool, wanted: Option<u16>, value: Option<u16>) -> bool
 
 // Whether a value is as it is wanted.
 #[inline(always)]
-fn is_met(wanted: Wanted, value: Option<u16>) -> bool
+fn is_met(wanted: WantedValue, value: Option<u16>) -> bool
     ensures { result ≡ meets wanted value }
 {
     is_so(wanted.equal, wanted.value, value)
@@ -50,7 +50,7 @@ fn is_met(wanted: Wanted, value: Option<u16>) -> bool
 
 /// Whether a card is as it is wanted.
 #[inline(always)]
-pub(crate) fn is_as_wanted(scene: &Scene, wanted: Wanted, card: Card) -> bool
+pub(crate) fn is_as_wanted(scene: &Scene, wanted: WantedValue, card: Card) -> bool
     ensures { result ≡ wanted_value (scene_seen scene.now) wanted (value_seen card) }
 {
     is_met(wanted, attr_of(scene, Some(card), wanted.name))
@@ -58,14 +58,14 @@ pub(crate) fn is_as_wanted(scene: &Scene, wanted: Wanted, card: Card) -> bool
 
 /// Whether the card with this id is so, by the row of the attribute's values.
 #[inline(always)]
-pub(crate) fn is_met_in(row: &[Option<u16>], wanted: Wanted, id: u16) -> bool
+pub(crate) fn is_met_in(row: &[Option<u16>], wanted: WantedValue, id: u16) -> bool
     ensures { result ≡ meets wanted (slice_index_or row.now id None) }
 {
     is_met(wanted, value_in(row, id))
 }
 
 /// Whether all of the cards are so.
-pub(crate) fn all_as_wanted(scene: &Scene, wanted: Wanted, cards: &Collection) -> bool
+pub(crate) fn all_as_wanted(scene: &Scene, wanted: WantedValue, cards: &Collection) -> bool
     ensures { result ≡ list_all (wanted_value (scene_seen scene.now) wanted) cards.now }
 {
     if let Some(ids) = cards.ids() {
@@ -78,7 +78,7 @@ pub(crate) fn all_as_wanted(scene: &Scene, wanted: Wanted, cards: &Collection) -
 
 /// Whether all of the cards with these ids are so, by the row of the attribute's values.
 #[inline(always)]
-pub fn all_met_in(row: &[Option<u16>], wanted: Wanted, ids: &[u16]) -> bool
+pub fn all_met_in(row: &[Option<u16>], wanted: WantedValue, ids: &[u16]) -> bool
     ensures { result ≡ list_all (λ id. meets wanted (slice_index_or row.now id None)) ids.now }
 {
     for place in 0..ids.len() {
@@ -91,7 +91,7 @@ pub fn all_met_in(row: &[Option<u16>], wanted: Wanted, ids: &[u16]) -> bool
 
 /// The same, card by card.
 #[inline(never)]
-pub fn all_one_by_one(scene: &Scene, wanted: Wanted, cards: &Collection) -> bool
+pub fn all_one_by_one(scene: &Scene, wanted: WantedValue, cards: &Collection) -> bool
     ensures { result ≡ list_all (wanted_value (scene_seen scene.now) wanted) cards.now }
 {
     for place in 0..cards.len() {
@@ -103,7 +103,7 @@ pub fn all_one_by_one(scene: &Scene, wanted: Wanted, cards: &Collection) -> bool
 }
 
 /// Whether one of the cards is so.
-pub(crate) fn some_as_wanted(scene: &Scene, wanted: Wanted, cards: &Collection) -> bool
+pub(crate) fn some_as_wanted(scene: &Scene, wanted: WantedValue, cards: &Collection) -> bool
     ensures { result ≡ list_any (wanted_value (scene_seen scene.now) wanted) cards.now }
 {
     if let Some(ids) = cards.ids() {
@@ -116,7 +116,7 @@ pub(crate) fn some_as_wanted(scene: &Scene, wanted: Wanted, cards: &Collection) 
 
 /// Whether one of the cards with these ids is so, by the row of the attribute's values.
 #[inline(always)]
-pub fn some_met_in(row: &[Option<u16>], wanted: Wanted, ids: &[u16]) -> bool
+pub fn some_met_in(row: &[Option<u16>], wanted: WantedValue, ids: &[u16]) -> bool
     ensures { result ≡ list_any (λ id. meets wanted (slice_index_or row.now id None)) ids.now }
 {
     for place in 0..ids.len() {
@@ -129,7 +129,7 @@ pub fn some_met_in(row: &[Option<u16>], wanted: Wanted, ids: &[u16]) -> bool
 
 /// The same, card by card.
 #[inline(never)]
-pub fn some_one_by_one(scene: &Scene, wanted: Wanted, cards: &Collection) -> bool
+pub fn some_one_by_one(scene: &Scene, wanted: WantedValue, cards: &Collection) -> bool
     ensures { result ≡ list_any (wanted_value (scene_seen scene.now) wanted) cards.now }
 {
     for place in 0..cards.len() {
@@ -142,7 +142,7 @@ pub fn some_one_by_one(scene: &Scene, wanted: Wanted, cards: &Collection) -> boo
 
 /// How many of the cards with these ids are so, by the row of the attribute's values.
 #[inline(always)]
-pub(crate) fn count_met_in(row: &[Option<u16>], wanted: Wanted, ids: &[u16]) -> usize
+pub(crate) fn count_met_in(row: &[Option<u16>], wanted: WantedValue, ids: &[u16]) -> usize
     requires few { length ids.now ≤ most_in_collection }
     ensures is { result ≡ length (filter (λ id. meets wanted (slice_index_or row.now id None)) ids.now) }
     ensures few { result ≤ most_in_list }
@@ -184,11 +184,11 @@ pub(crate) fn is_against(expr: &CardExpr, other: &CardExpr, place: usize) -> boo
 
 /// The opposite of what is wanted.
 #[inline(always)]
-pub(crate) fn unwanted(wanted: Option<Wanted>) -> Option<Wanted>
+pub(crate) fn unwanted(wanted: Option<WantedValue>) -> Option<WantedValue>
     ensures { result ≡ option_map turned wanted }
 {
     match wanted {
-        Some(wanted) => Some(Wanted {
+        Some(wanted) => Some(WantedValue {
             name: wanted.name,
             value: wanted.value,
             equal: !wanted.equal,
@@ -245,7 +245,7 @@ fn is_against_fixed(expr: &CardExpr, other: &CardExpr, place: usize) -> bool
 /// A test of the innermost variable's card as a value that the card is to have, where that is at hand: a value that the
 /// sheet names, or that of the card at the top of a location that no variable owns.
 #[inline(always)]
-pub(crate) fn wanted_at_hand(scene: &Scene, scope: &Bindings, test: &Test) -> Option<Wanted>
+pub(crate) fn wanted_at_hand(scene: &Scene, scope: &Bindings, test: &Test) -> Option<WantedValue>
     ensures { IfSome result (IsWanted (scene_seen scene.now) scope.now (test_seen test.now)) }
 {
     wanted_at(scene, scope, scope.len(), test)
@@ -253,7 +253,7 @@ pub(crate) fn wanted_at_hand(scene: &Scene, scope: &Bindings, test: &Test) -> Op
 
 /// The same of the variable at a place, in any scope that ends before it.
 #[inline(always)]
-pub fn wanted_at(scene: &Scene, scope: &Bindings, place: usize, test: &Test) -> Option<Wanted>
+pub fn wanted_at(scene: &Scene, scope: &Bindings, place: usize, test: &Test) -> Option<WantedValue>
     ensures { IfSome result (IsWantedAt (scene_seen scene.now) place (test_seen test.now)) }
 {
     match test {
@@ -265,7 +265,7 @@ pub fn wanted_at(scene: &Scene, scope: &Bindings, place: usize, test: &Test) -> 
 
 /// The same, but for opposites.
 #[inline(always)]
-pub fn equal_at(scene: &Scene, scope: &Bindings, place: usize, test: &Test) -> Option<Wanted>
+pub fn equal_at(scene: &Scene, scope: &Bindings, place: usize, test: &Test) -> Option<WantedValue>
     ensures { IfSome result (IsWantedAt (scene_seen scene.now) place (test_seen test.now)) }
 {
     match test {
@@ -287,11 +287,11 @@ pub fn equal_at(scene: &Scene, scope: &Bindings, place: usize, test: &Test) -> O
 
 // The value that an attribute is to have, if it is known.
 #[inline(always)]
-fn equal_to(name: u16, value: Option<Option<u16>>) -> Option<Wanted>
+fn equal_to(name: u16, value: Option<Option<u16>>) -> Option<WantedValue>
     ensures { result ≡ option_map (λ v. record { name = name; value = v; equal = true }) value }
 {
     match value {
-        Some(value) => Some(Wanted {
+        Some(value) => Some(WantedValue {
             name,
             value,
             equal: true,

@@ -5,4 +5,4 @@ use Rattle.rc_asked.proofs.FixedLemmas.{none_fixed}
 use Rattle.rc_asked.proofs.guards.known_of.Goals as goal
 
 pub returns-in-None-clause-found : goal.returns-in-None-clause-found
-returns-in-None-clause-found c = none_fixed (test_seen c.args.test.now) (ap is_some (sym c.in-None.is) ∙ c.atom_of.ensures.found)
+returns-in-None-clause-found c = none_fixed (test_seen c.args.test.now) (ap is_some (sym c.in-None.is) ∙ c.comparison_of.ensures.found)

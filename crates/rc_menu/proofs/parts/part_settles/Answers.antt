@@ -13,7 +13,7 @@ pub returns-in-Some-clause-is : goal.returns-in-Some-clause-is
 returns-in-Some-clause-is c =
     joined_asked (scene_seen c.args.scene.now) c.args.scope.now (part_meant c.args.part.now) c.args.any c.args.asks.now.items c.push.new.self.items c.ask_in.result
     c.push.ensures.items
-    (λ card. c.in-Wished.ensures card ∙ sym (met_in_row c.args.scene.now c.in-Wished.wanted card c.in-Some.row.now c.in-Some.ensures)
+    (λ card. c.in-OfCard.ensures card ∙ sym (met_in_row c.args.scene.now c.in-OfCard.wanted card c.in-Some.row.now c.in-Some.ensures)
     ∙ sym (c.ask_in.ensures.is (id_of card)) ∙ met_here (scene_seen c.args.scene.now) c.args.scope.now card c.ask_in.result c.ask_in.ensures.by_row)
 
 pub returns-in-Some-clause-sought : goal.returns-in-Some-clause-sought

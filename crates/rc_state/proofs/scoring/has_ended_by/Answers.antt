@@ -5,7 +5,7 @@ use Rattle.rc_play_model.specs.Value.{test_value}
 use Rattle.rc_play_model.specs.About.{scene_at}
 use Rattle.rc_rules.specs.Control.{frames_seen}
 use Rattle.rc_value.specs.Scene.{scene_seen}
-use Rattle.rc_asked.specs.declared.flat.Flat.TheVariants.{EachHas}
+use Rattle.rc_asked.specs.declared.flat.FlatTest.TheVariants.{EachHas}
 use Rattle.rc_asked.specs.Meaning.{flat_meant}
 use Rattle.rc_state.proofs.scoring.has_ended_by.Goals as goal
 
