@@ -8,7 +8,7 @@ ghost use Rattle.rc_redraw.specs.Counts.{looked, kept};
 ghost use Rattle.rc_redraw.specs.Reply.{IfHit, is_hit as is_hit_of};
 ghost use Rattle.rc_cache.specs.Replay.{stands, is_legal};
 ghost use Rattle.rc_cache.specs.Sums.{counted, idle_lanes, looks_of, hits_of, keeps_of};
-ghost use Rattle.rc_cache.specs.Book.{calls_of, keys_in, line_seen, with_line};
+ghost use Rattle.rc_cache.specs.Book.{calls_of, keys_in, lane_call_seen, with_lane_call};
 ghost use Rattle.rc_cache.specs.Kept.{about_in};
 ghost use Rattle.rc_cache.specs.Fresh.{HasNames, HasParts};
 
@@ -40,18 +40,18 @@ impl<N: BookNaming> Model for Book<N> {
     ghost use Rattle.std.specs.Prelude.{◌≤◌, List, map};
     ghost use Rattle.std.specs.Coded.{codes};
     ghost use Rattle.rc_flow.specs.Codes.{sheet_codes};
-    ghost use Rattle.rc_cache.specs.Book.{Line, line_seen};
+    ghost use Rattle.rc_cache.specs.Book.{LaneCall, lane_call_seen};
     ghost use Rattle.rc_cache.specs.Kept.{IsKept};
 
-    ghost Value = { List Line };
+    ghost Value = { List LaneCall };
 
     ghost coded = { Prim.hlevel (sheet_codes, codes) };
 
-    ghost view = { λ b. map line_seen b.journal.items };
+    ghost view = { λ b. map lane_call_seen b.journal.items };
 
     ghost invariant = { λ b. (1 ≤ N.lanes)
         × IsKept N.about N.capacity b.cache
-        (map line_seen b.journal.items) b.sums.looks.total b.sums.hits.total b.sums.keeps.total };
+        (map lane_call_seen b.journal.items) b.sums.looks.total b.sums.hits.total b.sums.keeps.total };
 }
 
 impl<N: BookNaming> Book<N> {
@@ -102,7 +102,8 @@ impl<N: BookNaming> Book<N> {
 
         // The journal has one line more, with the lane's number and whether it hit, and the lane counts the same.
         ensures journal { IfOk result
-            (λ reply. self.new ≡ with_line self.old lane.old.number (looked (key_seen key.now) (is_hit_of reply))) }
+            (λ reply. self.new
+            ≡ with_lane_call self.old lane.old.number (looked (key_seen key.now) (is_hit_of reply))) }
         ensures lane { IfOk result (λ reply. lane.new
             ≡ counted lane.old (looked (key_seen key.now) (is_hit_of reply))) }
         ensures lacking { OnErr result ((self.new ≡ self.old) × (lane.new ≡ lane.old)) }
@@ -129,7 +130,7 @@ impl<N: BookNaming> Book<N> {
         requires served { entry.about ≡ N.about }
 
         // The journal has one line more, with the lane's number, and the lane counts the same.
-        ensures journal { OnOk result (self.new ≡ with_line self.old lane.old.number (kept entry)) }
+        ensures journal { OnOk result (self.new ≡ with_lane_call self.old lane.old.number (kept entry)) }
         ensures lane { OnOk result (lane.new ≡ counted lane.old (kept entry)) }
         ensures lacking { OnErr result ((self.new ≡ self.old) × (lane.new ≡ lane.old)) }
     {
@@ -148,7 +149,7 @@ impl<N: BookNaming> Book<N> {
 
     /// The calls so far. Each look says what is so, and each key is of the about that the book serves.
     pub fn journal(&self) -> &[Call]
-        ensures is { map line_seen result.now ≡ self.now }
+        ensures is { map lane_call_seen result.now ≡ self.now }
 
         // Each look hit exactly where its key was in the book then.
         ensures legal { is_legal N.capacity (calls_of self.now) ≡ true }

@@ -5,7 +5,7 @@ use Rattle.rc_redraw.specs.Choosing.{AsksAll, AsksSome}
 use Rattle.rc_rules.specs.declared.plan.Plan.{Plan}
 use Rattle.rc_rules.specs.Plan.{plan_seen}
 use Rattle.rc_match.proofs.AskLemmas.{looks_rise}
-use Rattle.rc_cache.specs.Book.{Line, calls_of}
+use Rattle.rc_cache.specs.Book.{LaneCall, calls_of}
 use Rattle.rc_cache.specs.Hits.{hits, cost}
 use Rattle.rc_cache.specs.Laws.{OneWorkerHits, OneWorkerLacks}
 use Rattle.rc_cache.specs.Memos.{own_counts}
@@ -14,7 +14,8 @@ use Rattle.rc_cache.specs.Sums.{Lane, idle}
 use Rattle.rc_records.specs.Series.{looks_below, looks_of}
 use Rattle.rc_records.proofs.SeriesLemmas.{all_looks}
 
-module _ {capacity named : ℕ} {before own closed : List Line × Lane} (about : About) (plan : Plan) (steps steps' : ℕ)
+module _ {capacity named : ℕ} {before own closed : List LaneCall × Lane}
+    (about : About) (plan : Plan) (steps steps' : ℕ)
     (same : capacity ≡ named) (unasked : before ≡ ([], idle 0)) (is : closed ≡ own) (legal : is_legal named (calls_of closed.0) ≡ true) where
   none : (own_counts before).calls ≡ Some []
   none = ap (λ o. (own_counts o).calls) unasked
