@@ -17,7 +17,7 @@ use Rattle.rc_code.specs.Instruction.{Block, Instruction, begin_stage, offer, en
 use Rattle.rc_code.specs.Meaning.{items_in, items_from, first_stage, behind_stage, stage_at, behind_at, left_behind}
 use Rattle.rc_code.specs.Meaning.{left_in as left_in_code}
 use Rattle.rc_code.specs.Stands.{ItemStands, ItemsStand, StandsFor}
-use Rattle.rc_code.specs.Serves.{path_to, IsPlaced}
+use Rattle.rc_code.specs.Implements.{path_to, IsPlaced}
 use Rattle.rc_code.proofs.MeaningLemmas.{items_choice}
 use Rattle.rc_code.proofs.CompiledLemmas.{joined_items, joined_items-none, says_before_items}
 

@@ -10,7 +10,7 @@ use Rattle.rc_play_model.specs.Path.{Path}
 use Rattle.rc_code.specs.Instruction.{Instruction, SitePlace, Code}
 use Rattle.rc_code.specs.Meaning.{effects_in, first_effects, passed_over, items_in, items_from, left_in}
 use Rattle.rc_code.specs.Stands.{EffectsStand, ItemsStand, StandsFor}
-use Rattle.rc_code.specs.Serves.{Serves, IsPlaced}
+use Rattle.rc_code.specs.Implements.{Implements, IsPlaced}
 
 -- what an instruction does, and then what those behind it do
 abbrev pub DoesInOrder : Type 0
@@ -26,9 +26,10 @@ SaysWhatItStandsFor =
     × ((sites : List SitePlace) (outer : List ℕ) (at : ℕ) (items : SheetItems) (code : List Instruction) → ItemsStand sites outer at items code →
     items_in code ≡ items)
 
--- code that stands for a well formed sheet serves it
-abbrev pub StandingServes : Type 0
-StandingServes = (sheet : Sheet) (code : Code) → StandsFor sheet code → IsWellFormed sheet → Serves sheet code.list
+-- code that stands for a well formed sheet implements it
+abbrev pub StandingImplements : Type 0
+StandingImplements =
+    (sheet : Sheet) (code : Code) → StandsFor sheet code → IsWellFormed sheet → Implements sheet code.list
 
 -- and each choice site of the sheet has its place in it
 abbrev pub SitesArePlaced : Type 0

@@ -3,7 +3,7 @@ use Rattle.std.proofs.Common.{◌≡◌, ℕ, zero, suc, ◌-◌, ◌≤◌, Lis
 use Rattle.std.proofs.lemmas.List.{take_all, take_rest, drop_all, length-map}
 use Rattle.rc_code.specs.declared.code.Instruction.{Instruction}
 use Rattle.rc_code.specs.Seen.{instruction_seen, list_seen}
-use Rattle.rc_code.specs.Serves.{AreSimple}
+use Rattle.rc_code.specs.Implements.{AreSimple}
 
 pub front_seen : (code : List Instruction) (count : ℕ) → list_seen (take count code) ≡ take count (list_seen code)
 front_seen code zero = refl

@@ -14,7 +14,7 @@ ghost use Rattle.rc_state.specs.Under.{IsCollUnder, IsEffectUnder, AreEffectsUnd
 ghost use Rattle.rc_state.specs.Context.{scene_in, Stands, in_scope};
 ghost use Rattle.rc_code.specs.Meaning.{effects_in, first_effects, passed_over};
 ghost use Rattle.rc_code.specs.Seen.{instruction_seen, list_seen};
-ghost use Rattle.rc_code.specs.Serves.{IsSimple, AreSimple};
+ghost use Rattle.rc_code.specs.Implements.{IsSimple, AreSimple};
 ghost use Rattle.rc_board.specs.Undo.{Keeps};
 ghost use Rattle.rc_rules.specs.Dealer.{ShuffledBy};
 

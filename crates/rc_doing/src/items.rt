@@ -19,7 +19,7 @@ ghost use Rattle.rc_state.specs.Context.{scene_in, Stands, in_scope};
 ghost use Rattle.rc_board.specs.Undo.{Keeps};
 ghost use Rattle.rc_code.specs.Meaning.{effects_in};
 ghost use Rattle.rc_code.specs.Seen.{list_seen};
-ghost use Rattle.rc_code.specs.Serves.{AreSimple};
+ghost use Rattle.rc_code.specs.Implements.{AreSimple};
 ghost use Rattle.rc_rules.specs.Dealer.{ShuffledBy};
 
 use crate::blocks::do_block;

@@ -2,7 +2,7 @@
 ghost use Rattle.std.specs.Prelude.{◌≡◌, false, OnOk, IsOk};
 ghost use Rattle.rc_play_model.specs.Effects.{does_one};
 ghost use Rattle.rc_ast.specs.Effects.{effect_seen};
-ghost use Rattle.rc_code.specs.Serves.{HoldsNone};
+ghost use Rattle.rc_code.specs.Implements.{HoldsNone};
 ghost use Rattle.rc_state.specs.Context.{Stands, in_scope};
 ghost use Rattle.rc_state.specs.Point.{point_of};
 ghost use Rattle.rc_state.specs.Under.{IsEffectUnder};

@@ -3,7 +3,7 @@ use Rattle.std.specs.Prelude.{◌≡◌, Bool, false, List}
 use Rattle.rc_play_model.specs.About.{About}
 use Rattle.rc_code.specs.Instruction.{Instruction}
 use Rattle.rc_code.specs.Seen.{list_seen}
-use Rattle.rc_code.specs.Serves.{Serves}
+use Rattle.rc_code.specs.Implements.{Implements}
 use Rattle.rc_stand.specs.State.{config_at, IsReady}
 use Rattle.rc_stand.specs.declared.state.State.{State}
 use Rattle.rc_flat.specs.Machine.{Machine}
@@ -21,9 +21,9 @@ machine_seen m =
       spent = m.spent;
     }
 
--- What a machine keeps: its code serves the sheet, its table is laid for the shape, and where it isn't spent a match stands there.
+-- What a machine keeps: its code implements the sheet, its table is laid for the shape, and where it isn't spent a match stands there.
 pub record IsMachine (about : About) (code : List Instruction) (state : State) (spent : Bool) : Type 0 where
-  pub serves : Serves about.sheet code
+  pub implements : Implements about.sheet code
   pub laid : state.board.laid.shape ≡ about.shape
   pub ready : spent ≡ false → IsReady about code state
 

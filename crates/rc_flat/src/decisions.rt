@@ -7,7 +7,7 @@ ghost use Rattle.rc_code.specs.Instruction.{offer};
 ghost use Rattle.rc_code.specs.Meaning.{block_in};
 ghost use Rattle.rc_code.specs.Seen.{block_seen, list_seen};
 ghost use Rattle.rc_board.specs.Undo.{Keeps};
-ghost use Rattle.rc_code.specs.Serves.{AreSimple, Serves};
+ghost use Rattle.rc_code.specs.Implements.{AreSimple, Implements};
 ghost use Rattle.rc_stand.specs.State.{IsReady, config_at};
 ghost use Rattle.rc_rules.specs.Dealer.{ShuffledBy};
 
@@ -28,7 +28,7 @@ pub fn apply<D: Dealer>(
     item: u16,
     dealer: &mut D,
 ) -> Result<(), Memory>
-    requires serves { Serves about.now.sheet (list_seen code.now) }
+    requires implements { Implements about.now.sheet (list_seen code.now) }
     requires ready { IsReady about.now (list_seen code.now) state.old }
     requires decision { StandsAtDecision about.now (config_at about.now (list_seen code.now) state.old) }
     requires offered { item < length (menu_here about.now (config_at about.now (list_seen code.now) state.old)) }
@@ -66,7 +66,7 @@ fn take_item<D: Dealer>(
     item: u16,
     dealer: &mut D,
 ) -> Result<(), Memory>
-    requires serves { Serves about.now.sheet (list_seen code.now) }
+    requires implements { Implements about.now.sheet (list_seen code.now) }
     requires ready { IsReady about.now (list_seen code.now) state.old }
     requires here { (site : ℕ) × (slice_get (list_seen code.now) state.old.place.next
         ≡ Some (offer site alts.now (map block_seen blocks.now) inside)) }

@@ -14,7 +14,7 @@ ghost use Rattle.rc_stand.specs.Moments.{IsInMatch};
 use crate::machine::FlatMachine;
 use crate::undoing::refill;
 use rc_board::Board;
-use rc_code::{Code, sites_are_placed, standing_code_serves};
+use rc_code::{Code, sites_are_placed, standing_code_implements};
 use rc_deck::Memory;
 use rc_flow::Checked;
 use rc_rules::{About, Control, Items};
@@ -104,7 +104,7 @@ impl FlatMachine {
         ensures fresh { result.spent ≡ false }
         ensures notes { result.notes ≡ board.notes }
     {
-        standing_code_serves();
+        standing_code_implements();
         // what an about keeps
         let _sheet = about.sheet();
         let control = new_control(&about);
@@ -200,7 +200,7 @@ impl FlatMachine {
         ensures fresh { result.spent ≡ false }
         ensures notes { result.notes ≡ board.notes }
     {
-        standing_code_serves();
+        standing_code_implements();
         // what an about keeps
         let _sheet = about.sheet();
         let mut state = State {

@@ -4,7 +4,7 @@ ghost use Rattle.rc_play_model.specs.About.{scene_at};
 ghost use Rattle.rc_play_model.specs.ItemBounds.{bound_of};
 ghost use Rattle.rc_play_model.specs.Menu.{alt_in, bindings_of};
 ghost use Rattle.rc_code.specs.Seen.{list_seen};
-ghost use Rattle.rc_code.specs.Serves.{Serves};
+ghost use Rattle.rc_code.specs.Implements.{Implements};
 ghost use Rattle.rc_rules.specs.Bounds.{bounds_seen};
 ghost use Rattle.rc_rules.specs.Control.{frames_seen};
 ghost use Rattle.rc_rules.specs.Machine.{StandsAtDecision, bounds_here, menu_here};
@@ -23,7 +23,7 @@ use rc_value::Current;
 
 /// What an item of the menu of the decision that is next binds.
 pub(crate) fn bounds_of(state: &State, about: &About, code: &[Instruction], item: u16) -> Bounds
-    requires serves { Serves about.now.sheet (list_seen code.now) }
+    requires implements { Implements about.now.sheet (list_seen code.now) }
     requires ready { IsReady about.now (list_seen code.now) state.now }
     requires decision { StandsAtDecision about.now (config_at about.now (list_seen code.now) state.now) }
     requires offered { item < length (menu_here about.now (config_at about.now (list_seen code.now) state.now)) }

@@ -6,7 +6,7 @@ ghost use Rattle.rc_rules.specs.Control.{frames_seen};
 ghost use Rattle.rc_code.specs.Instruction.{Block as PureBlock, do_all, offer};
 ghost use Rattle.rc_code.specs.Seen.{instruction_seen, list_seen};
 ghost use Rattle.rc_board.specs.Undo.{Keeps};
-ghost use Rattle.rc_code.specs.Serves.{Serves};
+ghost use Rattle.rc_code.specs.Implements.{Implements};
 ghost use Rattle.rc_stand.specs.State.{KeepsMenu, IsReady, config_at, next_seen, LeadsTo};
 ghost use Rattle.rc_rules.specs.Dealer.{ShuffledBy};
 
@@ -29,7 +29,7 @@ fn do_next<D: Dealer>(
     inside: usize,
     dealer: &mut D,
 ) -> Result<(), Memory>
-    requires serves { Serves about.now.sheet (list_seen code.now) }
+    requires implements { Implements about.now.sheet (list_seen code.now) }
     requires ready { IsReady about.now (list_seen code.now) state.old }
     requires round { state.old.place.at_round ≡ false }
     requires here { slice_get (list_seen code.now) state.old.place.next ≡ Some (do_all inside) }
@@ -74,7 +74,7 @@ fn choice_next(
     alts: &[Offer],
     inside: usize,
 ) -> Option<Stop>
-    requires serves { Serves about.now.sheet (list_seen code.now) }
+    requires implements { Implements about.now.sheet (list_seen code.now) }
     requires ready { IsReady about.now (list_seen code.now) state.old }
     requires round { state.old.place.at_round ≡ false }
     requires here { (blocks : List PureBlock)
@@ -133,7 +133,7 @@ pub fn one_step<D: Dealer>(
     code: &[Instruction],
     dealer: &mut D,
 ) -> Result<Option<Stop>, Memory>
-    requires serves { Serves about.now.sheet (list_seen code.now) }
+    requires implements { Implements about.now.sheet (list_seen code.now) }
     requires ready { IsReady about.now (list_seen code.now) state.old }
     ensures leads { IfOk result (λ stop. step about.now (D.dealing dealer.old) (D.state dealer.old)
         (config_at about.now (list_seen code.now) state.old)

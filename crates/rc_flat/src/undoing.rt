@@ -1,7 +1,7 @@
 //! Back to where a match stood.
 ghost use Rattle.std.specs.Prelude.{◌≡◌};
 ghost use Rattle.rc_code.specs.Seen.{list_seen};
-ghost use Rattle.rc_code.specs.Serves.{Serves};
+ghost use Rattle.rc_code.specs.Implements.{Implements};
 ghost use Rattle.rc_stand.specs.State.{IsReady, flat_of};
 ghost use Rattle.rc_stand.specs.Moments.{IsInMatch};
 
@@ -12,7 +12,7 @@ use rc_stand::{State, choice_there};
 
 /// Finds anew who is current, and fills the menu anew where a decision is next.
 pub fn refill(state: &mut State, about: &About, code: &[Instruction])
-    requires serves { Serves about.now.sheet (list_seen code.now) }
+    requires implements { Implements about.now.sheet (list_seen code.now) }
     requires laid { state.old.board.laid.shape ≡ about.now.shape }
     requires on { IsInMatch (flat_of about.now (list_seen code.now) state.old) }
     ensures ready { IsReady about.now (list_seen code.now) state.new }

@@ -26,7 +26,7 @@ use Rattle.rc_play_model.proofs.SiteLemmas.{same_site}
 use Rattle.rc_rules.specs.Machine.{CanDecide}
 use Rattle.rc_code.specs.Instruction.{SitePlace, Code}
 use Rattle.rc_code.specs.Laws.{SitesArePlaced}
-use Rattle.rc_code.specs.Serves.{IsPlaced, path_to}
+use Rattle.rc_code.specs.Implements.{IsPlaced, path_to}
 use Rattle.rc_code.specs.Stands.{StandsFor}
 use Rattle.rc_stand.specs.Flat.{Flat, config_of, flat_from, IsInPlay, IsOffered}
 use Rattle.rc_stand.specs.Moments.{IsInMatch}

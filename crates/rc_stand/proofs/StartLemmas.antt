@@ -15,7 +15,7 @@ use Rattle.rc_play_model.proofs.ControlLemmas.{zeros}
 use Rattle.rc_code.specs.Instruction.{Instruction}
 use Rattle.rc_code.specs.Meaning.{items_in}
 use Rattle.rc_stand.specs.Shallow.{AreShallow}
-use Rattle.rc_code.specs.Serves.{Serves}
+use Rattle.rc_code.specs.Implements.{Implements}
 use Rattle.rc_stand.specs.Flat.{Flat, config_of, IsInPlay}
 use Rattle.rc_stand.proofs.ShallowLemmas.{start_shallow}
 
@@ -31,14 +31,15 @@ at_start about code =
       control = record { site = None; frames = []; turn = 0; made = replicate about.sheet.players 0 };
     }
 
-starts : (about : About) (code : List Instruction) → Serves about.sheet code → config_of (at_start about code) ≡ start about
-starts about code serves =
+starts : (about : About) (code : List Instruction) → Implements about.sheet code → config_of (at_start about code) ≡ start about
+starts about code implements =
     ap (λ left. record { left = left; table = opening about.shape; control = (at_start about code).control })
-    (append-nil (todos (item_list (items_in code))) ∙ ap (λ (items : SheetItems). todos (item_list items)) serves.items)
+    (append-nil (todos (item_list (items_in code)))
+        ∙ ap (λ (items : SheetItems). todos (item_list items)) implements.items)
 
-start_plays : (about : About) (code : List Instruction) → Serves about.sheet code → IsWellFormed about.sheet → IsInPlay (at_start about code)
-start_plays about code serves formed =
-    let starts' = sym (starts about code serves) in
+start_plays : (about : About) (code : List Instruction) → Implements about.sheet code → IsWellFormed about.sheet → IsInPlay (at_start about code)
+start_plays about code implements formed =
+    let starts' = sym (starts about code implements) in
     record {
       stands = record { stages = tt; at_stage = λ e. absurd (true≢false (sym e)) };
       frames = subst HasFrames starts' (start_frames about);
@@ -48,13 +49,14 @@ start_plays about code serves formed =
     }
 
 -- a machine of these parts
-pub start_ready : (about : About) (code : List Instruction) (place : Path) (table : Table) (control : Control) → Serves about.sheet code → IsWellFormed about.sheet →
+pub start_ready : (about : About) (code : List Instruction) (place : Path) (table : Table) (control : Control) → Implements about.sheet code → IsWellFormed about.sheet →
     place ≡ (at_start about code).place → table ≡ (at_start about code).table → control ≡ (at_start about code).control →
     IsInPlay (record { about = about; code = code; place = place; table = table; control = control })
     × (config_of (record { about = about; code = code; place = place; table = table; control = control }) ≡ start about)
-start_ready about code place table control serves formed place_is table_is control_is =
+start_ready about code place table control implements formed place_is table_is control_is =
     let same : at_start about code ≡ record { about = about; code = code; place = place; table = table; control = control } =
     ap (λ (p : Path). record { about = about; code = code; place = p; table = opening about.shape; control = (at_start about code).control }) (sym place_is)
     ∙ ap (λ (t : Table). record { about = about; code = code; place = place; table = t; control = (at_start about code).control }) (sym table_is)
     ∙ ap (λ (c : Control). record { about = about; code = code; place = place; table = table; control = c }) (sym control_is) in
-    (subst IsInPlay same (start_plays about code serves formed), sym (ap config_of same) ∙ starts about code serves)
+    (subst IsInPlay same (start_plays about code implements formed), sym (ap config_of same)
+        ∙ starts about code implements)

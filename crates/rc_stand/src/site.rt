@@ -2,7 +2,7 @@
 ghost use Rattle.std.specs.Prelude.{◌≡◌, ◌≤◌, IsSome, Some, length, slice_get};
 ghost use Rattle.rc_code.specs.Instruction.{SitePlace as PurePlace};
 ghost use Rattle.rc_code.specs.Seen.{code_seen, place_seen};
-ghost use Rattle.rc_code.specs.Serves.{path_to};
+ghost use Rattle.rc_code.specs.Implements.{path_to};
 
 use crate::place::Position;
 use arrayvec::ArrayVec;

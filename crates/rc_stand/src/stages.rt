@@ -4,7 +4,7 @@ ghost use Rattle.rc_sheet_model.specs.Sheet.{Class as PureClass, Test as PureTes
 ghost use Rattle.rc_code.specs.Instruction.{begin_stage};
 ghost use Rattle.rc_code.specs.Meaning.{items_from};
 ghost use Rattle.rc_code.specs.Seen.{list_seen};
-ghost use Rattle.rc_code.specs.Serves.{Serves};
+ghost use Rattle.rc_code.specs.Implements.{Implements};
 ghost use Rattle.rc_stand.specs.State.{IsReady, config_at, LeadsTo};
 
 use crate::state::State;
@@ -43,7 +43,7 @@ impl State {
         inside: usize,
     ) -> Option<Stop>
         requires ready { IsReady about.now (list_seen code.now) self.old }
-        requires serves { Serves about.now.sheet (list_seen code.now) }
+        requires implements { Implements about.now.sheet (list_seen code.now) }
         requires round { self.old.place.at_round ≡ true }
         requires within { (outer : List ℕ) × (self.old.place.outer ≡ outer ++ place ∷ []) }
         requires here { (number : ℕ) × (class : PureClass)
@@ -110,7 +110,7 @@ impl State {
     /// A step at a round.
     #[inline(always)]
     pub fn step_round(&mut self, about: &About, code: &[Instruction]) -> Option<Stop>
-        requires serves { Serves about.now.sheet (list_seen code.now) }
+        requires implements { Implements about.now.sheet (list_seen code.now) }
         requires ready { IsReady about.now (list_seen code.now) self.old }
         requires round { self.old.place.at_round ≡ true }
         ensures leads { LeadsTo about.now (config_at about.now (list_seen code.now) self.old) result

@@ -12,7 +12,7 @@ use Rattle.rc_ast.specs.Names.{loc_seen}
 use Rattle.rc_ast.specs.Expressions.{domain_seen}
 use Rattle.rc_code.specs.Meaning.{effects_in, first_effects, passed_over}
 use Rattle.rc_code.specs.Seen.{instruction_seen, list_seen}
-use Rattle.rc_code.specs.Serves.{AreSimple}
+use Rattle.rc_code.specs.Implements.{AreSimple}
 use Rattle.rc_code.proofs.MeaningLemmas.{are_first, does_first}
 use Rattle.rc_table.specs.Laid.{Laid}
 use Rattle.rc_rules.specs.Control.{frames_seen}

@@ -8,7 +8,7 @@ use Rattle.rc_value.specs.Cards.{values_seen}
 use Rattle.rc_rules.specs.Dealer.{HasShuffled}
 use Rattle.rc_code.specs.Meaning.{effects_in}
 use Rattle.rc_code.specs.Seen.{list_seen}
-use Rattle.rc_code.specs.Serves.{AreSimple}
+use Rattle.rc_code.specs.Implements.{AreSimple}
 use Rattle.rc_state.specs.Point.{point_of}
 use Rattle.rc_state.specs.Under.{AreEffectsUnder}
 use Rattle.rc_state.specs.Context.{Stands}

@@ -27,7 +27,7 @@ item_at-requires c =
 pub bounds_in-requires-clause-well : goal.bounds_in-requires-clause-well
 bounds_in-requires-clause-well c =
     let there = c.choice_there-choice.ensures in
-    (c.requires.serves.choices c.next.result there.0 _ _ _ there.1).well
+    (c.requires.implements.choices c.next.result there.0 _ _ _ there.1).well
 
 pub returns : goal.returns
 returns c =

@@ -24,7 +24,7 @@ returns-then-is_empty-clause-leads c =
     let filled = c.fill_offers_by.ensures ∙ ap (λ (laid : Laid). menu_at about c.args.site laid.table m.control) c.table.ensures in
     let alts = c.args.alts.now in
     let here = c.requires.here in
-    let choice = c.requires.serves.choices m.place.next c.args.site alts here.0 c.args.inside here.1 in
+    let choice = c.requires.implements.choices m.place.next c.args.site alts here.0 c.args.inside here.1 in
     let none = eqb-true _ _ (sym c.is_empty.ensures ∙ c.if-is_empty.true) in
     λ dealing k.
     skip_leads m dealing k c.args.site alts here.0 c.args.inside c.requires.round here.1 c.behind.result
@@ -62,7 +62,7 @@ decide-requires-clause-here c =
     let filled = c.fill_offers_by.ensures ∙ ap (λ (laid : Laid). menu_at c.args.about.now c.args.site laid.table m.control) c.table.ensures in
     let alts = c.args.alts.now in
     let here = c.requires.here in
-    let choice = c.requires.serves.choices m.place.next c.args.site alts here.0 c.args.inside here.1 in
+    let choice = c.requires.implements.choices m.place.next c.args.site alts here.0 c.args.inside here.1 in
     let many = ap length filled in
     let all = length-map c.fill_offers_by.new.menu.items item_seen in
     let not_zero = eqb-false _ _ (sym c.is_empty.ensures ∙ c.if-is_empty.false) in

@@ -1,14 +1,14 @@
 use Rattle.std.proofs.Common.{◌≡◌, rules, sym, subst}
 use Rattle.rc_code.specs.Seen.{list_seen, code_seen}
-use Rattle.rc_code.specs.Serves.{Serves}
+use Rattle.rc_code.specs.Implements.{Implements}
 use Rattle.rc_stand.specs.State.{IsReady}
 use Rattle.rc_flat.proofs.machine.FlatMachine.at_place.Goals as goal
 
-pub refill-requires-clause-serves : goal.refill-requires-clause-serves
-refill-requires-clause-serves c =
+pub refill-requires-clause-implements : goal.refill-requires-clause-implements
+refill-requires-clause-implements c =
     let same : c.deref-2.result.now ≡ c.args.code.value.list.items = search rules in
-    subst (λ list. Serves c.args.about.sheet (list_seen list)) (sym same)
-    (c.standing_code_serves.ensures c.args.about.sheet (code_seen c.args.code.value) c.requires.stands c.sheet-sheet.ensures.well)
+    subst (λ list. Implements c.args.about.sheet (list_seen list)) (sym same)
+    (c.standing_code_implements.ensures c.args.about.sheet (code_seen c.args.code.value) c.requires.stands c.sheet-sheet.ensures.well)
 
 pub invariant_of-result : goal.invariant_of-result
 invariant_of-result c =
@@ -16,7 +16,7 @@ invariant_of-result c =
     let code = list_seen c.args.code.value.list.items in
     let same : c.deref-2.result.now ≡ c.args.code.value.list.items = search rules in
     record {
-      serves = c.standing_code_serves.ensures about.sheet (code_seen c.args.code.value) c.requires.stands c.sheet-sheet.ensures.well;
+      implements = c.standing_code_implements.ensures about.sheet (code_seen c.args.code.value) c.requires.stands c.sheet-sheet.ensures.well;
       laid = c.refill.ensures.ready.laid;
       ready = λ fresh. subst (λ list. IsReady about (list_seen list) c.refill.new.state) same c.refill.ensures.ready;
     }

@@ -14,7 +14,7 @@ invariant_of-self c =
     let ready = ready_home m.about code m.state.board c.go_home.new.self c.args.stand.now back.board back.control back.place back.menu back.current
     c.self.invariant.laid home in
     record {
-      serves = c.self.invariant.serves;
+      implements = c.self.invariant.implements;
       laid = ready.laid;
       ready = λ fresh. ready;
     }

@@ -23,7 +23,7 @@ invariant_of-self c =
     let moved = c.go_to.new.self in
     let new : State = record { board = moved.board; control = moved.control; place = moved.place; menu = c.write_menu.new.to; current = moment.current } in
     let ready = ready_then m.about code c.requires.moment.0 moment is new (c.go_to.ensures.there m.about code) (ap (λ (k : Kept). k.laid) c.go_to.ensures.board) c.write_menu.ensures refl in
-    record { serves = c.self.invariant.serves; laid = ready.laid; ready = λ fresh. ready }
+    record { implements = c.self.invariant.implements; laid = ready.laid; ready = λ fresh. ready }
 
 pub returns-clause-at : goal.returns-clause-at
 returns-clause-at c = λ config own.

@@ -14,7 +14,7 @@ use Rattle.rc_stand.proofs.state.State.round_next.Goals as goal
 pub ends-requires-clause-well : goal.ends-requires-clause-well
 ends-requires-clause-well c =
     let here = c.requires.here in
-    c.requires.serves.ends c.args.place here.0 here.1 c.args.end.now c.args.inside here.2
+    c.requires.implements.ends c.args.place here.0 here.1 c.args.end.now c.args.inside here.2
 
 pub returns-then-ends-clause-leads : goal.returns-then-ends-clause-leads
 returns-then-ends-clause-leads c =

@@ -1,4 +1,4 @@
--- Code that serves a sheet, and the places of choices in it: what a machine that runs on code needs.
+-- Code that implements a sheet, and the places of choices in it: what a machine that runs on code needs.
 use Rattle.std.specs.Prelude.{◌≡◌, ℕ, ◌+◌, ◌≤◌, false, List, [], ◌∷◌, length, take, drop, slice_get, Some}
 use Rattle.rc_sheet_model.specs.Sheet.{Class, Test, Effect, move, move_all, remember, forget, shuffle, set_to, increase, decrease, when, repeat, for_each, next_is, turn_round, peek, Alt, Sheet}
 use Rattle.rc_sheet_model.specs.WellFormed.{Around, IsTest, AreEffects, AreAlts}
@@ -49,9 +49,9 @@ abbrev pub AreSimple : List Instruction → Type 0
 AreSimple [] = Unit {0}
 AreSimple (i ∷ code) = IsSimple i × AreSimple code
 
--- Code that serves a sheet: its items are the sheet's, and all that stands in it is well formed. Code that stands for a well formed
--- sheet serves it.
-pub record Serves (sheet : Sheet) (code : List Instruction) : Type 0 where
+-- Code that implements a sheet: its items are the sheet's, and all that stands in it is well formed. Code that stands for a well formed
+-- sheet implements it.
+pub record Implements (sheet : Sheet) (code : List Instruction) : Type 0 where
   pub items : items_in code ≡ sheet.items
   pub simples : AreSimple code
   pub effects : (place inside : ℕ) → slice_get code place ≡ Some (do_all inside) →

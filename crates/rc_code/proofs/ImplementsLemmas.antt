@@ -1,4 +1,4 @@
--- Code that stands for a well formed sheet serves it: each of its instructions is fit for the sheet.
+-- Code that stands for a well formed sheet implements it: each of its instructions is fit for the sheet.
 use Rattle.std.proofs.Common.{◌≡◌, ℕ, zero, suc, ◌+◌, ◌≤◌, ◌==◌, List, [], ◌∷◌, ◌++◌, length, take, drop, slice_get, Some, inl, refl, sym, ap, ◌∙◌, subst, append_assoc, append-nil, length-append, arith}
 use Rattle.std.proofs.lemmas.List.{take_at, drop_at}
 use Rattle.std.proofs.lemmas.Bool.{eq-eqb, cond-true}
@@ -12,7 +12,7 @@ use Rattle.rc_play_model.proofs.SiteLemmas.{IsIn, IsIn-left, IsIn-right, only_on
 use Rattle.rc_code.specs.Instruction.{Block, Instruction, simple, if_true, so_often, one_by_one, do_all, begin_stage, offer, end_body, SitePlace, Code}
 use Rattle.rc_code.specs.Meaning.{effects_in, block_in}
 use Rattle.rc_code.specs.Stands.{EffectStands, EffectsStand, AltStands, AltsStand, ItemStands, ItemsStand, StandsFor}
-use Rattle.rc_code.specs.Serves.{HoldsNone, IsSimple, AreSimple, IsTestOutside, IsChoiceOf, Serves}
+use Rattle.rc_code.specs.Implements.{HoldsNone, IsSimple, AreSimple, IsTestOutside, IsChoiceOf, Implements}
 use Rattle.rc_code.proofs.CompiledLemmas.{says_effects, says_items}
 
 -- THE BLOCKS OF ALTERNATIVES
@@ -189,8 +189,9 @@ same_alts sheet formed site alts left among =
     subst (λ k. k ≤ 1) (sym (count_items site sheet.items [] ∙ ap (times site) formed.numbered.sites)) once in
     sym (alts_at_left sheet site ∙ ap first_alts (only_one (todo (choice site alts) ∷ left) [] (left_in site sheet.items []) few among))
 
-pub standing_serves : (sheet : Sheet) (code : Code) → StandsFor sheet code → IsWellFormed sheet → Serves sheet code.list
-standing_serves sheet code stands formed =
+pub standing_implements : (sheet : Sheet) (code : Code) → StandsFor sheet code → IsWellFormed sheet →
+    Implements sheet code.list
+standing_implements sheet code stands formed =
     let all = items_fit sheet code.sites outside [] 0 sheet.items [] code.list [] refl formed.items (same_alts sheet formed) stands.items in
     record {
       items = says_items code.sites [] 0 sheet.items code.list stands.items;
