@@ -9,20 +9,20 @@ use Rattle.rc_redraw.specs.Asking.{Key}
 use Rattle.rc_redraw.specs.Counts.{Call, looked, kept, one_if}
 use Rattle.rc_cache.specs.Same.{same_ask, same_key}
 use Rattle.rc_cache.specs.SameLaws.{asks_decide}
-use Rattle.rc_cache.specs.Replay.{stands, without, after, is_met, replay_from, legal_from, replay, is_legal}
+use Rattle.rc_cache.specs.Replay.{is_among, without, after, is_met, replay_from, legal_from, replay, is_legal}
 use Rattle.rc_cache.specs.Hits.{new_from, different}
 use Rattle.rc_cache.specs.Laws.{HasKeysOf}
 use Rattle.rc_cache.proofs.CacheLemmas.{length-without}
-use Rattle.rc_cache.proofs.ReplayLemmas.{stands-without, stands-take}
+use Rattle.rc_cache.proofs.ReplayLemmas.{is_among-without, is_among-take}
 
 -- no key is the same as one behind it
 abbrev Apart : List Key → Type 0
 Apart [] = Unit {0}
-Apart (k ∷ ks) = (stands k ks ≡ false) × Apart ks
+Apart (k ∷ ks) = (is_among k ks ≡ false) × Apart ks
 
-apart_each : (k : Key) (ks : List Key) → stands k ks ≡ false → AllByRecursion (λ j. same_key k j ≡ false) ks
+apart_each : (k : Key) (ks : List Key) → is_among k ks ≡ false → AllByRecursion (λ j. same_key k j ≡ false) ks
 apart_each k [] n = tt
-apart_each k (x ∷ ks) n = let p = or_parts (same_key k x) (stands k ks) n in (p.0, apart_each k ks p.1)
+apart_each k (x ∷ ks) n = let p = or_parts (same_key k x) (is_among k ks) n in (p.0, apart_each k ks p.1)
 
 distinct : (ks : List Key) → Apart ks → IsDistinct same_key ks
 unfolding IsDistinct
@@ -36,18 +36,18 @@ not_so false c f n = refl
 same_again : (k : Key) → same_key k k ≡ true
 same_again k = (asks_decide k.ask k.ask).1 refl
 
-stands_alike : (j k : Key) → same_key j k ≡ true → (ks : List Key) → stands j ks ≡ stands k ks
-stands_alike j k same [] = refl
-stands_alike j k same (x ∷ ks) =
-    ap₂ ◌||◌ (ap (λ a. same_ask a x.ask) ((asks_decide j.ask k.ask).0 same)) (stands_alike j k same ks)
+among_alike : (j k : Key) → same_key j k ≡ true → (ks : List Key) → is_among j ks ≡ is_among k ks
+among_alike j k same [] = refl
+among_alike j k same (x ∷ ks) =
+    ap₂ ◌||◌ (ap (λ a. same_ask a x.ask) ((asks_decide j.ask k.ask).0 same)) (among_alike j k same ks)
 
 -- a key is taken out, put in front, or cut off
-gone : (k : Key) (ks : List Key) → Apart ks → stands k (without k ks) ≡ false
+gone : (k : Key) (ks : List Key) → Apart ks → is_among k (without k ks) ≡ false
 gone k [] a = refl
 gone k (x ∷ ks) a = by (same_key k x) refl (gone k ks a.1)
   where
-    by : (b : Bool) → same_key k x ≡ b → stands k (without k ks) ≡ false → stands k (cond b ks (x ∷ without k ks)) ≡ false
-    by true t r = stands_alike k x t ks ∙ a.0
+    by : (b : Bool) → same_key k x ≡ b → is_among k (without k ks) ≡ false → is_among k (cond b ks (x ∷ without k ks)) ≡ false
+    by true t r = among_alike k x t ks ∙ a.0
     by false t r = ap₂ ◌||◌ t r
 
 apart_without : (k : Key) (ks : List Key) → Apart ks → Apart (without k ks)
@@ -56,12 +56,12 @@ apart_without k (x ∷ ks) a = by (same_key k x) (apart_without k ks a.1)
   where
     by : (b : Bool) → Apart (without k ks) → Apart (cond b ks (x ∷ without k ks))
     by true r = a.1
-    by false r = (not_so (stands x (without k ks)) (stands x ks) (stands-without x k ks) a.0, r)
+    by false r = (not_so (is_among x (without k ks)) (is_among x ks) (is_among-without x k ks) a.0, r)
 
 apart_take : (n : ℕ) (ks : List Key) → Apart ks → Apart (take n ks)
 apart_take zero ks a = tt
 apart_take (suc n) [] a = tt
-apart_take (suc n) (x ∷ ks) a = (not_so (stands x (take n ks)) (stands x ks) (stands-take x n ks) a.0, apart_take n ks a.1)
+apart_take (suc n) (x ∷ ks) a = (not_so (is_among x (take n ks)) (is_among x ks) (is_among-take x n ks) a.0, apart_take n ks a.1)
 
 apart_front : (k : Key) (ks : List Key) → Apart ks → Apart (k ∷ without k ks)
 apart_front k ks a = (gone k ks a, apart_without k ks a)
@@ -104,34 +104,34 @@ replay_fits capacity calls legal = fits_replay capacity [] calls legal (omega ar
 -- each of these keys that isn't among those that were seen, once
 abbrev kinds : List Key → List Key → List Key
 kinds seen [] = []
-kinds seen (k ∷ ks) = cond (stands k seen) (kinds (k ∷ seen) ks) (k ∷ kinds (k ∷ seen) ks)
+kinds seen (k ∷ ks) = cond (is_among k seen) (kinds (k ∷ seen) ks) (k ∷ kinds (k ∷ seen) ks)
 
 kinds_many : (seen ks : List Key) → length (kinds seen ks) ≡ new_from seen ks
 kinds_many seen [] = refl
-kinds_many seen (k ∷ ks) = by (stands k seen) (kinds_many (k ∷ seen) ks)
+kinds_many seen (k ∷ ks) = by (is_among k seen) (kinds_many (k ∷ seen) ks)
   where
     by : (b : Bool) → length (kinds (k ∷ seen) ks) ≡ new_from (k ∷ seen) ks →
         length (cond b (kinds (k ∷ seen) ks) (k ∷ kinds (k ∷ seen) ks)) ≡ one_if (not b) + new_from (k ∷ seen) ks
     by true r = omega (arith, r)
     by false r = omega (arith, r)
 
-kinds_new : (seen ks : List Key) (j : Key) → stands j seen ≡ true → stands j (kinds seen ks) ≡ false
+kinds_new : (seen ks : List Key) (j : Key) → is_among j seen ≡ true → is_among j (kinds seen ks) ≡ false
 kinds_new seen [] j h = refl
 kinds_new seen (k ∷ ks) j h =
-    by (stands k seen) refl (kinds_new (k ∷ seen) ks j (ap (λ b. same_key j k || b) h ∙ or_right (same_key j k) true refl))
+    by (is_among k seen) refl (kinds_new (k ∷ seen) ks j (ap (λ b. same_key j k || b) h ∙ or_right (same_key j k) true refl))
   where
-    by : (b : Bool) → stands k seen ≡ b → stands j (kinds (k ∷ seen) ks) ≡ false →
-        stands j (cond b (kinds (k ∷ seen) ks) (k ∷ kinds (k ∷ seen) ks)) ≡ false
+    by : (b : Bool) → is_among k seen ≡ b → is_among j (kinds (k ∷ seen) ks) ≡ false →
+        is_among j (cond b (kinds (k ∷ seen) ks) (k ∷ kinds (k ∷ seen) ks)) ≡ false
     by true t r = r
-    by false t r = ap₂ ◌||◌ (not_so (same_key j k) (stands k seen) (λ same. sym (stands_alike j k same seen) ∙ h) t) r
+    by false t r = ap₂ ◌||◌ (not_so (same_key j k) (is_among k seen) (λ same. sym (among_alike j k same seen) ∙ h) t) r
 
 kinds_apart : (seen ks : List Key) → Apart (kinds seen ks)
 kinds_apart seen [] = tt
-kinds_apart seen (k ∷ ks) = by (stands k seen) (kinds_apart (k ∷ seen) ks)
+kinds_apart seen (k ∷ ks) = by (is_among k seen) (kinds_apart (k ∷ seen) ks)
   where
     by : (b : Bool) → Apart (kinds (k ∷ seen) ks) → Apart (cond b (kinds (k ∷ seen) ks) (k ∷ kinds (k ∷ seen) ks))
     by true r = r
-    by false r = (kinds_new (k ∷ seen) ks k (ap (λ b. b || stands k seen) (same_again k)), r)
+    by false r = (kinds_new (k ∷ seen) ks k (ap (λ b. b || is_among k seen) (same_again k)), r)
 
 seen_again : (a s x y : Bool) → (a ≡ true → s ≡ true) → ((a || s) || x) ≡ ((a || s) || y) → (s || x) ≡ (s || (a || y))
 seen_again a true x y f r = refl
@@ -143,16 +143,16 @@ seen_first a true x y r = refl
 seen_first true false x y r = refl
 seen_first false false x y r = r
 
-kinds_all : (seen ks : List Key) (j : Key) → (stands j seen || stands j (kinds seen ks)) ≡ (stands j seen || stands j ks)
+kinds_all : (seen ks : List Key) (j : Key) → (is_among j seen || is_among j (kinds seen ks)) ≡ (is_among j seen || is_among j ks)
 kinds_all seen [] j = refl
-kinds_all seen (k ∷ ks) j = by (stands k seen) refl (kinds_all (k ∷ seen) ks j)
+kinds_all seen (k ∷ ks) j = by (is_among k seen) refl (kinds_all (k ∷ seen) ks j)
   where
-    by : (b : Bool) → stands k seen ≡ b →
-        ((same_key j k || stands j seen) || stands j (kinds (k ∷ seen) ks)) ≡ ((same_key j k || stands j seen) || stands j ks) →
-        (stands j seen || stands j (cond b (kinds (k ∷ seen) ks) (k ∷ kinds (k ∷ seen) ks))) ≡ (stands j seen || (same_key j k || stands j ks))
+    by : (b : Bool) → is_among k seen ≡ b →
+        ((same_key j k || is_among j seen) || is_among j (kinds (k ∷ seen) ks)) ≡ ((same_key j k || is_among j seen) || is_among j ks) →
+        (is_among j seen || is_among j (cond b (kinds (k ∷ seen) ks) (k ∷ kinds (k ∷ seen) ks))) ≡ (is_among j seen || (same_key j k || is_among j ks))
     by true t r =
-        seen_again (same_key j k) (stands j seen) (stands j (kinds (k ∷ seen) ks)) (stands j ks) (λ same. stands_alike j k same seen ∙ t) r
-    by false t r = seen_first (same_key j k) (stands j seen) (stands j (kinds (k ∷ seen) ks)) (stands j ks) r
+        seen_again (same_key j k) (is_among j seen) (is_among j (kinds (k ∷ seen) ks)) (is_among j ks) (λ same. among_alike j k same seen ∙ t) r
+    by false t r = seen_first (same_key j k) (is_among j seen) (is_among j (kinds (k ∷ seen) ks)) (is_among j ks) r
 
 same_keys : IsEquivalence same_key
 same_keys =
@@ -163,7 +163,7 @@ same_keys =
       congr = λ x y z. asks.congr x.ask y.ask z.ask;
     }
 
-member_is : (key : Key) (keys : List Key) → is_member same_key keys key ≡ stands key keys
+member_is : (key : Key) (keys : List Key) → is_member same_key keys key ≡ is_among key keys
 member_is key [] = refl
 member_is key (k ∷ keys) = ap (λ b. same_key key k || b) (member_is key keys)
 

@@ -5,7 +5,7 @@ use Rattle.std.proofs.lemmas.Bool.{and_parts, false≢true}
 use Rattle.rc_redraw.specs.Asking.{Key, cost_of}
 use Rattle.rc_redraw.specs.Counts.{Call, looked, kept, Counts, looked_up, kept_once, with_call}
 use Rattle.rc_redraw.specs.Choosing.{Asks, hits as hit, misses as missed, AsksAll, Lacks, unasked, unkept, AsksSome}
-use Rattle.rc_cache.specs.Replay.{stands, without, after, legal_from, is_legal}
+use Rattle.rc_cache.specs.Replay.{is_among, without, after, legal_from, is_legal}
 use Rattle.rc_cache.specs.Hits.{hits_from, cost_from, hits, cost}
 
 -- what the calls say where they are legal from this list on
@@ -25,8 +25,8 @@ none-missed false h = refl
 hit_says : (key : Key) (looks : List Key) (before between after : Counts) (n more n' : ℕ) (calls : List Call) → between ≡ looked_up key true before →
     more ≡ n → Says between after more n' looks calls → Says before after n n' (key ∷ looks) (looked key true ∷ calls)
 hit_says key looks before between after n more n' calls is same says capacity keys legal =
-    let l = and_parts (stands key keys) (legal_from capacity (key ∷ without key keys) calls) legal in
-    let there : stands key keys ≡ true = l.0 in
+    let l = and_parts (is_among key keys) (legal_from capacity (key ∷ without key keys) calls) legal in
+    let there : is_among key keys ≡ true = l.0 in
     let rest = says capacity (key ∷ without key keys) l.1 in
     let hit : between.hits ≡ before.hits + 1 = ap (λ c. c.hits) is in
     let hits = rest.0 in
@@ -37,8 +37,8 @@ miss_says : (key : Key) (looks : List Key) (before between after : Counts) (n mo
     between ≡ kept_once key (looked_up key false before) → more ≡ n + cost_of key → Says between after more n' looks calls →
     Says before after n n' (key ∷ looks) (looked key false ∷ kept key ∷ calls)
 miss_says key looks before between after n more n' calls is more_is says capacity keys legal =
-    let l = and_parts (not (stands key keys)) (legal_from capacity (take capacity (key ∷ without key keys)) calls) legal in
-    let absent : stands key keys ≡ false = none-missed (stands key keys) l.0 in
+    let l = and_parts (not (is_among key keys)) (legal_from capacity (take capacity (key ∷ without key keys)) calls) legal in
+    let absent : is_among key keys ≡ false = none-missed (is_among key keys) l.0 in
     let rest = says capacity (take capacity (key ∷ without key keys)) l.1 in
     let hit : between.hits ≡ before.hits + 0 = ap (λ c. c.hits) is in
     let hits = rest.0 in
@@ -96,8 +96,8 @@ ToldSome after n n' looks earlier = (calls : List Call) × (after.calls ≡ Some
 hit_bounds : (key : Key) (looks : List Key) (n more n' : ℕ) (calls : List Call) → more ≡ n → Bounds more n' looks calls →
     Bounds n n' (key ∷ looks) (looked key true ∷ calls)
 hit_bounds key looks n more n' calls same bounds capacity keys legal =
-    let l = and_parts (stands key keys) (legal_from capacity (key ∷ without key keys) calls) legal in
-    let there : stands key keys ≡ true = l.0 in
+    let l = and_parts (is_among key keys) (legal_from capacity (key ∷ without key keys) calls) legal in
+    let there : is_among key keys ≡ true = l.0 in
     let rest = bounds capacity (key ∷ without key keys) l.1 in
     let least = rest.0 in
     let most = rest.1 in
@@ -106,8 +106,8 @@ hit_bounds key looks n more n' calls same bounds capacity keys legal =
 miss_bounds : (key : Key) (looks : List Key) (n more n' : ℕ) (calls : List Call) → more ≡ n + cost_of key → Bounds more n' looks calls →
     Bounds n n' (key ∷ looks) (looked key false ∷ kept key ∷ calls)
 miss_bounds key looks n more n' calls more_is bounds capacity keys legal =
-    let l = and_parts (not (stands key keys)) (legal_from capacity (take capacity (key ∷ without key keys)) calls) legal in
-    let absent : stands key keys ≡ false = none-missed (stands key keys) l.0 in
+    let l = and_parts (not (is_among key keys)) (legal_from capacity (take capacity (key ∷ without key keys)) calls) legal in
+    let absent : is_among key keys ≡ false = none-missed (is_among key keys) l.0 in
     let rest = bounds capacity (take capacity (key ∷ without key keys)) l.1 in
     let least = rest.0 in
     let most = rest.1 in
@@ -116,7 +116,7 @@ miss_bounds key looks n more n' calls more_is bounds capacity keys legal =
 -- a miss that is the last call
 last_bounds : (key : Key) (looks : List Key) (n n' : ℕ) → n ≤ n' → n' ≤ n + cost_of key → Bounds n n' (key ∷ looks) (looked key false ∷ [])
 last_bounds key looks n n' least most capacity keys legal =
-    let absent : stands key keys ≡ false = none-missed (stands key keys) (and_parts (not (stands key keys)) true legal).0 in
+    let absent : is_among key keys ≡ false = none-missed (is_among key keys) (and_parts (not (is_among key keys)) true legal).0 in
     rw absent (least, omega (arith, most))
 
 lacks_tell : (key : Key) (looks : List Key) (before after : Counts) (n n' : ℕ) (earlier : List Call) → before.calls ≡ Some earlier →

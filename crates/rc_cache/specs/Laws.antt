@@ -5,7 +5,7 @@ use Rattle.rc_redraw.specs.Asking.{Key}
 use Rattle.rc_redraw.specs.Counts.{Call, Counts}
 use Rattle.rc_redraw.specs.Choosing.{AsksAll, AsksSome}
 use Rattle.rc_cache.specs.Same.{same_key}
-use Rattle.rc_cache.specs.Replay.{stands, replay, is_legal}
+use Rattle.rc_cache.specs.Replay.{is_among, replay, is_legal}
 use Rattle.rc_cache.specs.Hits.{hits, cost, different}
 use Rattle.rc_cache.specs.Sums.{looks_of, hits_of, keeps_of}
 
@@ -34,7 +34,7 @@ SomeLookMisses =
 
 -- exactly the keys of these looks stand here
 abbrev pub HasKeysOf : List Key → List Key → Type 0
-HasKeysOf looks keys = (key : Key) → stands key keys ≡ stands key looks
+HasKeysOf looks keys = (key : Key) → is_among key keys ≡ is_among key looks
 
 -- Each list that has exactly the keys of these looks, and none twice, is as long as these have different keys; and there is such a list.
 abbrev pub DifferentKeys : Type 0

@@ -6,9 +6,9 @@ use Rattle.rc_redraw.specs.Counts.{Call, looked, kept}
 use Rattle.rc_cache.specs.Same.{same_key}
 
 -- whether the key is among these
-abbrev pub stands : Key → List Key → Bool
-stands key [] = false
-stands key (k ∷ keys) = same_key key k || stands key keys
+abbrev pub is_among : Key → List Key → Bool
+is_among key [] = false
+is_among key (k ∷ keys) = same_key key k || is_among key keys
 
 -- the key is taken out where it first stands
 abbrev pub without : Key → List Key → List Key
@@ -23,7 +23,7 @@ after capacity keys (kept key) = take capacity (key ∷ without key keys)
 
 -- a look hits exactly where its key is there
 abbrev pub is_met : List Key → Call → Bool
-is_met keys (looked key hit) = if hit then stands key keys else not (stands key keys)
+is_met keys (looked key hit) = if hit then is_among key keys else not (is_among key keys)
 is_met keys (kept key) = true
 
 abbrev pub replay_from : ℕ → List Key → List Call → List Key

@@ -6,7 +6,7 @@ ghost use Rattle.rc_play_model.specs.Tally.{tally as tally_of};
 ghost use Rattle.rc_redraw.specs.Asking.{key_seen};
 ghost use Rattle.rc_redraw.specs.Counts.{looked, kept};
 ghost use Rattle.rc_redraw.specs.Reply.{IfHit, is_hit as is_hit_of};
-ghost use Rattle.rc_cache.specs.Replay.{stands, is_legal};
+ghost use Rattle.rc_cache.specs.Replay.{is_among, is_legal};
 ghost use Rattle.rc_cache.specs.Sums.{counted, idle_lanes, looks_of, hits_of, keeps_of};
 ghost use Rattle.rc_cache.specs.Book.{calls_of, keys_in, lane_call_seen, with_lane_call};
 ghost use Rattle.rc_cache.specs.Kept.{about_in};
@@ -94,7 +94,8 @@ impl<N: BookNaming> Book<N> {
         requires served { (key_seen key.now).about ≡ N.about }
 
         // It hits exactly where the calls before leave the key in the book.
-        ensures hit { IfOk result (λ reply. is_hit_of reply ≡ stands (key_seen key.now) (keys_in N.capacity self.old)) }
+        ensures hit { IfOk result (λ reply. is_hit_of reply
+            ≡ is_among (key_seen key.now) (keys_in N.capacity self.old)) }
 
         // Totals that are found are those that its playouts come to.
         ensures totals { IfOk result

@@ -5,7 +5,7 @@ ghost use Rattle.rc_play_model.specs.About.{About};
 ghost use Rattle.rc_play_model.specs.Tally.{tally as tally_of};
 ghost use Rattle.rc_redraw.specs.Counts.{looked, kept};
 ghost use Rattle.rc_redraw.specs.Reply.{IfHit, is_hit};
-ghost use Rattle.rc_cache.specs.Replay.{stands, after};
+ghost use Rattle.rc_cache.specs.Replay.{is_among, after};
 ghost use Rattle.rc_cache.specs.Kept.{IsOwn, key_by, key_in};
 
 use crate::mark::HashedAsk;
@@ -20,7 +20,7 @@ pub(crate) type Cache = LruCache<HashedAsk, Entry>;
 /// What is known of an ask. Memory may run out.
 pub(crate) fn find(alloc: Global, cache: &Cache, mark: &HashedAsk) -> Result<Reply, Memory>
     ensures hit { IfOk result (λ reply. (about : About)
-        → is_hit reply ≡ stands (key_by about mark.now) (map (key_in about) cache.now.entries)) }
+        → is_hit reply ≡ is_among (key_by about mark.now) (map (key_in about) cache.now.entries)) }
     ensures totals { IfOk result (λ reply. (about : About) → AllByRecursion (IsOwn about) cache.now.entries
         → IfHit reply (λ totals. totals ≡ tally_of about mark.now)) }
 {
@@ -37,7 +37,7 @@ pub(crate) fn find(alloc: Global, cache: &Cache, mark: &HashedAsk) -> Result<Rep
 pub(crate) fn bring(cache: &mut Cache, mark: &HashedAsk)
     ensures keys { (about : About) → map (key_in about) cache.new.entries
         ≡ after cache.old.cap (map (key_in about) cache.old.entries)
-        (looked (key_by about mark.now) (stands (key_by about mark.now) (map (key_in about) cache.old.entries))) }
+        (looked (key_by about mark.now) (is_among (key_by about mark.now) (map (key_in about) cache.old.entries))) }
     ensures own { (about : About) → AllByRecursion (IsOwn about) cache.old.entries
         → AllByRecursion (IsOwn about) cache.new.entries }
     ensures capacity { cache.new.cap ≡ cache.old.cap }
