@@ -11,7 +11,7 @@ ghost use Rattle.rc_value.specs.Cards.{value_seen, values_seen};
 ghost use Rattle.rc_value.specs.Seen.{bind_seen};
 ghost use Rattle.rc_state.specs.Point.{point_of};
 ghost use Rattle.rc_state.specs.Under.{IsCollUnder, IsEffectUnder, AreEffectsUnder};
-ghost use Rattle.rc_state.specs.Context.{scene_in, Stands, in_scope};
+ghost use Rattle.rc_state.specs.Context.{scene_in, IsContextOf, in_scope};
 ghost use Rattle.rc_code.specs.Meaning.{effects_in, first_effects, passed_over};
 ghost use Rattle.rc_code.specs.Seen.{instruction_seen, list_seen};
 ghost use Rattle.rc_code.specs.Implements.{IsSimple, AreSimple};
@@ -88,14 +88,14 @@ pub fn do_block<D: Dealer>(
     frames: &mut Frames,
     dealer: &mut D,
 ) -> Result<(), Memory>
-    requires stands { Stands context.now board.old.laid frames.old.items }
+    requires stands { IsContextOf context.now board.old.laid frames.old.items }
     requires well { in_scope context.now AreEffectsUnder (effects_in (list_seen code.now)) }
     requires simple { AreSimple (list_seen code.now) }
     ensures does { OnOk result (does context.now.about.now (D.dealing dealer.old) context.now.scope.now
         (effects_in (list_seen code.now))
         (point_of board.old.laid frames.old.items (D.state dealer.old))
         ≡ point_of board.new.laid frames.new.items (D.state dealer.new)) }
-    ensures stands { OnOk result (Stands context.now board.new.laid frames.new.items) }
+    ensures stands { OnOk result (IsContextOf context.now board.new.laid frames.new.items) }
     ensures keeps { Keeps board.old board.new }
     ensures quiet { board.old.notes ≡ false → IsOk result }
     ensures shuffled { ShuffledBy D.dealing D.state dealer.old dealer.new }
@@ -123,7 +123,7 @@ fn do_first<'c, D: Dealer>(
     frames: &mut Frames,
     dealer: &mut D,
 ) -> Result<&'c [Instruction], Memory>
-    requires stands { Stands context.now board.old.laid frames.old.items }
+    requires stands { IsContextOf context.now board.old.laid frames.old.items }
     requires well { in_scope context.now AreEffectsUnder
         (first_effects (instruction_seen first.now) (list_seen behind.now)) }
     requires simple { IsSimple (instruction_seen first.now) }
@@ -136,7 +136,7 @@ fn do_first<'c, D: Dealer>(
         ≡ drop (passed_over (instruction_seen first.now)) (list_seen behind.now)) }
     ensures simple { IfOk result (λ left. AreSimple (list_seen left.now)) }
     ensures shorter { IfOk result (λ left. length left.now ≤ length behind.now) }
-    ensures stands { OnOk result (Stands context.now board.new.laid frames.new.items) }
+    ensures stands { OnOk result (IsContextOf context.now board.new.laid frames.new.items) }
     ensures keeps { Keeps board.old board.new }
     ensures quiet { board.old.notes ≡ false → IsOk result }
     ensures shuffled { ShuffledBy D.dealing D.state dealer.old dealer.new }
@@ -193,14 +193,14 @@ fn do_if<D: Dealer>(
     frames: &mut Frames,
     dealer: &mut D,
 ) -> Result<(), Memory>
-    requires stands { Stands context.now board.old.laid frames.old.items }
+    requires stands { IsContextOf context.now board.old.laid frames.old.items }
     requires well { in_scope context.now IsEffectUnder (when test.now (effects_in (list_seen inside.now))) }
     requires simple { AreSimple (list_seen inside.now) }
     ensures does { OnOk result (does_one context.now.about.now (D.dealing dealer.old) context.now.scope.now
         (when test.now (effects_in (list_seen inside.now)))
         (point_of board.old.laid frames.old.items (D.state dealer.old))
         ≡ point_of board.new.laid frames.new.items (D.state dealer.new)) }
-    ensures stands { OnOk result (Stands context.now board.new.laid frames.new.items) }
+    ensures stands { OnOk result (IsContextOf context.now board.new.laid frames.new.items) }
     ensures keeps { Keeps board.old board.new }
     ensures quiet { board.old.notes ≡ false → IsOk result }
     ensures shuffled { ShuffledBy D.dealing D.state dealer.old dealer.new }
@@ -223,7 +223,7 @@ fn repeat<D: Dealer>(
     frames: &mut Frames,
     dealer: &mut D,
 ) -> Result<(), Memory>
-    requires stands { Stands context.now board.old.laid frames.old.items }
+    requires stands { IsContextOf context.now board.old.laid frames.old.items }
     requires well { in_scope context.now IsEffectUnder
         (repeat_of (int_seen count.now) (effects_in (list_seen inside.now))) }
     requires simple { AreSimple (list_seen inside.now) }
@@ -231,7 +231,7 @@ fn repeat<D: Dealer>(
         (repeat_of (int_seen count.now) (effects_in (list_seen inside.now)))
         (point_of board.old.laid frames.old.items (D.state dealer.old))
         ≡ point_of board.new.laid frames.new.items (D.state dealer.new)) }
-    ensures stands { OnOk result (Stands context.now board.new.laid frames.new.items) }
+    ensures stands { OnOk result (IsContextOf context.now board.new.laid frames.new.items) }
     ensures keeps { Keeps board.old board.new }
     ensures quiet { board.old.notes ≡ false → IsOk result }
     ensures shuffled { ShuffledBy D.dealing D.state dealer.old dealer.new }
@@ -267,7 +267,7 @@ fn for_each<D: Dealer>(
     frames: &mut Frames,
     dealer: &mut D,
 ) -> Result<(), Memory>
-    requires stands { Stands context.now board.old.laid frames.old.items }
+    requires stands { IsContextOf context.now board.old.laid frames.old.items }
     requires well { in_scope context.now IsEffectUnder
         (for_each_of (domain_seen domain.now) bound (effects_in (list_seen inside.now))) }
     requires simple { AreSimple (list_seen inside.now) }
@@ -275,7 +275,7 @@ fn for_each<D: Dealer>(
         (for_each_of (domain_seen domain.now) bound (effects_in (list_seen inside.now)))
         (point_of board.old.laid frames.old.items (D.state dealer.old))
         ≡ point_of board.new.laid frames.new.items (D.state dealer.new)) }
-    ensures stands { OnOk result (Stands context.now board.new.laid frames.new.items) }
+    ensures stands { OnOk result (IsContextOf context.now board.new.laid frames.new.items) }
     ensures keeps { Keeps board.old board.new }
     ensures quiet { board.old.notes ≡ false → IsOk result }
     ensures shuffled { ShuffledBy D.dealing D.state dealer.old dealer.new }
@@ -304,7 +304,7 @@ fn for_players<D: Dealer>(
     frames: &mut Frames,
     dealer: &mut D,
 ) -> Result<(), Memory>
-    requires stands { Stands context.now board.old.laid frames.old.items }
+    requires stands { IsContextOf context.now board.old.laid frames.old.items }
     requires room { length context.now.scope.now < 5 }
     requires well { (member : PureBind CardValue)
         → AreEffectsUnder context.now.about.now.sheet (context.now.scope.now ++ member ∷ [])
@@ -316,7 +316,7 @@ fn for_players<D: Dealer>(
         (point_of board.old.laid frames.old.items (D.state dealer.old))
         (map (λ n. player_bound n) (below context.now.about.now.sheet.players))
         ≡ point_of board.new.laid frames.new.items (D.state dealer.new)) }
-    ensures stands { OnOk result (Stands context.now board.new.laid frames.new.items) }
+    ensures stands { OnOk result (IsContextOf context.now board.new.laid frames.new.items) }
     ensures keeps { Keeps board.old board.new }
     ensures quiet { board.old.notes ≡ false → IsOk result }
     ensures shuffled { ShuffledBy D.dealing D.state dealer.old dealer.new }
@@ -345,7 +345,7 @@ fn for_cards<D: Dealer>(
     frames: &mut Frames,
     dealer: &mut D,
 ) -> Result<(), Memory>
-    requires stands { Stands context.now board.old.laid frames.old.items }
+    requires stands { IsContextOf context.now board.old.laid frames.old.items }
     requires cards { in_scope context.now IsCollUnder (coll_seen cards.now) }
     requires room { length context.now.scope.now < 5 }
     requires well { (member : PureBind CardValue)
@@ -359,7 +359,7 @@ fn for_cards<D: Dealer>(
         (map (λ c. card_bound c) (coll_value
         (scene_in context.now board.old.laid frames.old.items) context.now.scope.now (coll_seen cards.now)))
         ≡ point_of board.new.laid frames.new.items (D.state dealer.new)) }
-    ensures stands { OnOk result (Stands context.now board.new.laid frames.new.items) }
+    ensures stands { OnOk result (IsContextOf context.now board.new.laid frames.new.items) }
     ensures keeps { Keeps board.old board.new }
     ensures quiet { board.old.notes ≡ false → IsOk result }
     ensures shuffled { ShuffledBy D.dealing D.state dealer.old dealer.new }
@@ -385,7 +385,7 @@ fn for_these<D: Dealer>(
     frames: &mut Frames,
     dealer: &mut D,
 ) -> Result<(), Memory>
-    requires stands { Stands context.now board.old.laid frames.old.items }
+    requires stands { IsContextOf context.now board.old.laid frames.old.items }
     requires cards { All (λ card. IsCardOf context.now.about.now.shape (value_seen card)) cards.now }
     requires room { length context.now.scope.now < 5 }
     requires well { (member : PureBind CardValue)
@@ -398,7 +398,7 @@ fn for_these<D: Dealer>(
         (point_of board.old.laid frames.old.items (D.state dealer.old))
         (map (λ c. card_bound c) (values_seen cards.now))
         ≡ point_of board.new.laid frames.new.items (D.state dealer.new)) }
-    ensures stands { OnOk result (Stands context.now board.new.laid frames.new.items) }
+    ensures stands { OnOk result (IsContextOf context.now board.new.laid frames.new.items) }
     ensures keeps { Keeps board.old board.new }
     ensures quiet { board.old.notes ≡ false → IsOk result }
     ensures shuffled { ShuffledBy D.dealing D.state dealer.old dealer.new }
@@ -428,7 +428,7 @@ fn do_for<'g, D: Dealer>(
     frames: &mut Frames,
     dealer: &mut D,
 ) -> Result<(), Memory>
-    requires stands { Stands context.now board.old.laid frames.old.items }
+    requires stands { IsContextOf context.now board.old.laid frames.old.items }
     requires scope { (other : PureBind CardValue) × (scope.old ≡ context.now.scope.now ++ other ∷ []) }
     requires bind { IsBindOf context.now.about.now.shape (bind_seen bind) }
     requires well { AreEffectsUnder context.now.about.now.sheet (context.now.scope.now ++ bind_seen bind ∷ [])
@@ -439,7 +439,7 @@ fn do_for<'g, D: Dealer>(
         (point_of board.old.laid frames.old.items (D.state dealer.old))
         ≡ point_of board.new.laid frames.new.items (D.state dealer.new)) }
     ensures scope { (other : PureBind CardValue) × (scope.new ≡ context.now.scope.now ++ other ∷ []) }
-    ensures stands { OnOk result (Stands context.now board.new.laid frames.new.items) }
+    ensures stands { OnOk result (IsContextOf context.now board.new.laid frames.new.items) }
     ensures keeps { Keeps board.old board.new }
     ensures quiet { board.old.notes ≡ false → IsOk result }
     ensures shuffled { ShuffledBy D.dealing D.state dealer.old dealer.new }
@@ -465,14 +465,14 @@ fn do_inside<D: Dealer>(
     frames: &mut Frames,
     dealer: &mut D,
 ) -> Result<(), Memory>
-    requires stands { Stands context.now board.old.laid frames.old.items }
+    requires stands { IsContextOf context.now board.old.laid frames.old.items }
     requires well { in_scope context.now AreEffectsUnder (effects_in (list_seen code.now)) }
     requires simple { AreSimple (list_seen code.now) }
     ensures does { OnOk result (does context.now.about.now (D.dealing dealer.old) context.now.scope.now
         (effects_in (list_seen code.now))
         (point_of board.old.laid frames.old.items (D.state dealer.old))
         ≡ point_of board.new.laid frames.new.items (D.state dealer.new)) }
-    ensures stands { OnOk result (Stands context.now board.new.laid frames.new.items) }
+    ensures stands { OnOk result (IsContextOf context.now board.new.laid frames.new.items) }
     ensures keeps { Keeps board.old board.new }
     ensures quiet { board.old.notes ≡ false → IsOk result }
     ensures shuffled { ShuffledBy D.dealing D.state dealer.old dealer.new }

@@ -11,7 +11,7 @@ ghost use Rattle.rc_play_model.specs.Value.{player_bound, loc_place};
 ghost use Rattle.rc_ast.specs.Effects.{effect_seen};
 ghost use Rattle.rc_ast.specs.Names.{loc_seen, who_seen};
 ghost use Rattle.rc_table.specs.Laid.{relaid};
-ghost use Rattle.rc_state.specs.Context.{scene_in, Stands};
+ghost use Rattle.rc_state.specs.Context.{scene_in, IsContextOf};
 ghost use Rattle.rc_code.specs.Meaning.{effects_in};
 ghost use Rattle.rc_code.specs.Seen.{list_seen};
 ghost use Rattle.rc_doing.specs.Everyone.{number_of, set_for, setting, location_of, gather_for, gathering, IsApart};
@@ -188,7 +188,7 @@ pub fn gather_all(
     board: &mut Board,
     frames: &Frames,
 ) -> Result<(), Memory>
-    requires stands { Stands context.now board.old.laid frames.now.items }
+    requires stands { IsContextOf context.now board.old.laid frames.now.items }
     requires cards { holds_references context.now.about.now.sheet each.to.now.name ≡ Some false }
     ensures leads { OnOk result (board.new.laid ≡ relaid board.old.laid
         (if_some

@@ -15,7 +15,7 @@ ghost use Rattle.rc_value.specs.Seen.{bind_seen};
 ghost use Rattle.rc_state.specs.Point.{point_of};
 ghost use Rattle.rc_state.specs.Under.{IsAltUnder, IsDomainUnder};
 ghost use Rattle.rc_state.specs.Bindings.{AreAltsOutside};
-ghost use Rattle.rc_state.specs.Context.{scene_in, Stands, in_scope};
+ghost use Rattle.rc_state.specs.Context.{scene_in, IsContextOf, in_scope};
 ghost use Rattle.rc_board.specs.Undo.{Keeps};
 ghost use Rattle.rc_code.specs.Meaning.{effects_in};
 ghost use Rattle.rc_code.specs.Seen.{list_seen};
@@ -98,7 +98,7 @@ fn do_here<D: Dealer>(
     frames: &mut Frames,
     dealer: &mut D,
 ) -> Result<(), Memory>
-    requires stands { Stands context.now board.old.laid frames.old.items }
+    requires stands { IsContextOf context.now board.old.laid frames.old.items }
     requires well { in_scope context.now IsAltUnder (alt_seen alt.now) }
     requires block { effects_in (list_seen block.now) ≡ effects_of (alt_seen alt.now) }
     requires simple { AreSimple (list_seen block.now) }
@@ -136,7 +136,7 @@ fn do_alt<D: Dealer>(
     frames: &mut Frames,
     dealer: &mut D,
 ) -> Result<(), Memory>
-    requires stands { Stands context.now board.old.laid frames.old.items }
+    requires stands { IsContextOf context.now board.old.laid frames.old.items }
     requires well { in_scope context.now IsAltUnder (alt_seen alt.now) }
     requires block { effects_in (list_seen block.now) ≡ effects_of (alt_seen alt.now) }
     requires simple { AreSimple (list_seen block.now) }
@@ -168,7 +168,7 @@ fn do_inner<D: Dealer>(
     frames: &mut Frames,
     dealer: &mut D,
 ) -> Result<(), Memory>
-    requires stands { Stands context.now board.old.laid frames.old.items }
+    requires stands { IsContextOf context.now board.old.laid frames.old.items }
     requires well { in_scope context.now IsAltUnder (alt_seen alt.now) }
     requires block { effects_in (list_seen block.now) ≡ effects_of (alt_seen alt.now) }
     requires simple { AreSimple (list_seen block.now) }
@@ -205,7 +205,7 @@ fn do_any<D: Dealer>(
     frames: &mut Frames,
     dealer: &mut D,
 ) -> Result<(), Memory>
-    requires stands { Stands context.now board.old.laid frames.old.items }
+    requires stands { IsContextOf context.now board.old.laid frames.old.items }
     requires domain { in_scope context.now IsDomainUnder (domain_seen domain.now) }
     requires room { length context.now.scope.now < 5 }
     requires well { (member : PureBind CardValue)
@@ -252,7 +252,7 @@ fn do_member<D: Dealer>(
     frames: &mut Frames,
     dealer: &mut D,
 ) -> Result<(), Memory>
-    requires stands { Stands context.now board.old.laid frames.old.items }
+    requires stands { IsContextOf context.now board.old.laid frames.old.items }
     requires domain { in_scope context.now IsDomainUnder (domain_seen domain.now) }
     requires room { length context.now.scope.now < 5 }
     requires well { (member : PureBind CardValue)
@@ -292,7 +292,7 @@ fn do_bound<D: Dealer>(
     frames: &mut Frames,
     dealer: &mut D,
 ) -> Result<(), Memory>
-    requires stands { Stands context.now board.old.laid frames.old.items }
+    requires stands { IsContextOf context.now board.old.laid frames.old.items }
     requires room { length context.now.scope.now < 5 }
     requires bind { IsBindOf context.now.about.now.shape (bind_seen bind) }
     requires well { IsAltUnder context.now.about.now.sheet (context.now.scope.now ++ bind_seen bind ∷ [])

@@ -11,7 +11,7 @@ ghost use Rattle.rc_ast.specs.Effects.{end_seen};
 ghost use Rattle.rc_table.specs.Laid.{relaid};
 ghost use Rattle.rc_table.specs.Runs.{put_each};
 ghost use Rattle.rc_value.specs.Cards.{value_seen, values_seen};
-ghost use Rattle.rc_state.specs.Context.{scene_in, Stands, in_scope};
+ghost use Rattle.rc_state.specs.Context.{scene_in, IsContextOf, in_scope};
 ghost use Rattle.rc_state.specs.Under.{IsCollUnder, IsEffectUnder};
 ghost use Rattle.rc_state.specs.Leads.{LeadsTo};
 ghost use Rattle.rc_board.specs.Undo.{Keeps};
@@ -38,7 +38,7 @@ pub fn move_one(
     board: &mut Board,
     frames: &Frames,
 ) -> Result<(), Memory>
-    requires stands { Stands context.now board.old.laid frames.now.items }
+    requires stands { IsContextOf context.now board.old.laid frames.now.items }
     requires well { in_scope context.now IsEffectUnder (move (card_seen card.now) (end_seen end) (loc_seen loc.now)) }
     ensures leads { OnOk result (LeadsTo context.now
         (move (card_seen card.now) (end_seen end)
@@ -64,7 +64,7 @@ pub fn move_all(
     board: &mut Board,
     frames: &Frames,
 ) -> Result<(), Memory>
-    requires stands { Stands context.now board.old.laid frames.now.items }
+    requires stands { IsContextOf context.now board.old.laid frames.now.items }
     requires well { in_scope context.now IsEffectUnder
         (move_all_of (coll_seen cards.now) (end_seen end) (loc_seen loc.now)) }
     ensures leads { OnOk result (LeadsTo context.now
@@ -92,7 +92,7 @@ fn put_some(
     board: &mut Board,
     frames: &Frames,
 ) -> Result<(), Memory>
-    requires stands { Stands context.now board.old.laid frames.now.items }
+    requires stands { IsContextOf context.now board.old.laid frames.now.items }
     requires well { in_scope context.now IsCollUnder (coll_seen cards.now) }
     requires holds { HoldsCards board.old.laid.shape at }
     ensures leads { OnOk result (board.new.laid
@@ -119,7 +119,7 @@ fn put_many(
     board: &mut Board,
     frames: &Frames,
 ) -> Result<(), Memory>
-    requires stands { Stands context.now board.old.laid frames.now.items }
+    requires stands { IsContextOf context.now board.old.laid frames.now.items }
     requires well { in_scope context.now IsCollUnder (coll_seen cards.now) }
     requires holds { HoldsCards board.old.laid.shape at }
     ensures leads { OnOk result (board.new.laid

@@ -5,7 +5,7 @@ ghost use Rattle.rc_play_model.specs.Effects as effects;
 ghost use Rattle.rc_ast.specs.Names.{num_seen};
 ghost use Rattle.rc_ast.specs.Expressions.{int_seen};
 ghost use Rattle.rc_table.specs.Laid.{relaid};
-ghost use Rattle.rc_state.specs.Context.{Stands, in_scope};
+ghost use Rattle.rc_state.specs.Context.{IsContextOf, in_scope};
 ghost use Rattle.rc_state.specs.Under.{IsEffectUnder};
 ghost use Rattle.rc_state.specs.declared.change.Change.TheVariants.{Set};
 ghost use Rattle.rc_state.specs.Leads.{LeadsTo, effect_by, new_by};
@@ -27,7 +27,7 @@ pub fn change_number(
     board: &mut Board,
     frames: &Frames,
 ) -> Result<(), Memory>
-    requires stands { Stands context.now board.old.laid frames.now.items }
+    requires stands { IsContextOf context.now board.old.laid frames.now.items }
     requires well { in_scope context.now IsEffectUnder (effect_by how (num_seen num.now) (int_seen value.now)) }
     ensures leads { OnOk result (LeadsTo context.now
         (effect_by how (num_seen num.now)
@@ -47,7 +47,7 @@ pub fn set_number(
     board: &mut Board,
     frames: &Frames,
 ) -> Result<(), Memory>
-    requires stands { Stands context.now board.old.laid frames.now.items }
+    requires stands { IsContextOf context.now board.old.laid frames.now.items }
     requires well { in_scope context.now IsEffectUnder (effect_by Set (num_seen num.now) (int_seen value.now)) }
     ensures leads { OnOk result (LeadsTo context.now
         (effect_by Set (num_seen num.now)
@@ -71,7 +71,7 @@ fn change(
     board: &mut Board,
     frames: &Frames,
 ) -> Result<(), Memory>
-    requires stands { Stands context.now board.old.laid frames.now.items }
+    requires stands { IsContextOf context.now board.old.laid frames.now.items }
     requires well { in_scope context.now IsEffectUnder (effect_by how (num_seen num.now) (int_seen value.now)) }
     ensures leads { OnOk result (LeadsTo context.now
         (effect_by how (num_seen num.now)

@@ -7,7 +7,7 @@ ghost use Rattle.rc_ast.specs.Names.{who_seen};
 ghost use Rattle.rc_ast.specs.Expressions.{coll_seen};
 ghost use Rattle.rc_table.specs.Laid.{relaid};
 ghost use Rattle.rc_value.specs.Cards.{value_seen, values_seen};
-ghost use Rattle.rc_state.specs.Context.{Stands, in_scope};
+ghost use Rattle.rc_state.specs.Context.{IsContextOf, in_scope};
 ghost use Rattle.rc_state.specs.Under.{IsEffectUnder};
 ghost use Rattle.rc_state.specs.Leads.{LeadsTo};
 ghost use Rattle.rc_board.specs.Undo.{Keeps};
@@ -28,7 +28,7 @@ pub fn peek(
     board: &mut Board,
     frames: &Frames,
 ) -> Result<(), Memory>
-    requires stands { Stands context.now board.old.laid frames.now.items }
+    requires stands { IsContextOf context.now board.old.laid frames.now.items }
     requires well { in_scope context.now IsEffectUnder (peek_of (coll_seen cards.now) (who_seen who)) }
     ensures leads { OnOk result (LeadsTo context.now (peek_of (coll_seen cards.now) (who_seen who))
         board.old.laid frames.now.items board.new.laid frames.now.items) }

@@ -9,7 +9,7 @@ ghost use Rattle.rc_ast.specs.Effects.{end_seen};
 ghost use Rattle.rc_play_model.specs.Scene.{id_of as id_in};
 ghost use Rattle.rc_table.specs.Laid.{relaid};
 ghost use Rattle.rc_value.specs.Cards.{value_seen};
-ghost use Rattle.rc_state.specs.Context.{Stands, in_scope};
+ghost use Rattle.rc_state.specs.Context.{IsContextOf, in_scope};
 ghost use Rattle.rc_state.specs.Under.{IsEffectUnder};
 ghost use Rattle.rc_state.specs.Leads.{LeadsTo};
 ghost use Rattle.rc_board.specs.Undo.{Keeps};
@@ -30,7 +30,7 @@ pub fn remember(
     board: &mut Board,
     frames: &Frames,
 ) -> Result<(), Memory>
-    requires stands { Stands context.now board.old.laid frames.now.items }
+    requires stands { IsContextOf context.now board.old.laid frames.now.items }
     requires well { in_scope context.now IsEffectUnder
         (remember_of (card_seen card.now) (end_seen end) (loc_seen loc.now)) }
     ensures leads { OnOk result (LeadsTo context.now
@@ -78,7 +78,7 @@ pub fn forget(
     board: &mut Board,
     frames: &Frames,
 ) -> Result<(), Memory>
-    requires stands { Stands context.now board.old.laid frames.now.items }
+    requires stands { IsContextOf context.now board.old.laid frames.now.items }
     requires well { in_scope context.now IsEffectUnder (forget_of (card_seen card.now)) }
     ensures leads { OnOk result (LeadsTo context.now
         (forget_of (card_seen card.now)) board.old.laid frames.now.items board.new.laid frames.now.items) }

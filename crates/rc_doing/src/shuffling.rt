@@ -5,7 +5,7 @@ ghost use Rattle.rc_play_model.specs.Table.{list_at, reorder};
 ghost use Rattle.rc_play_model.specs.Effects.{does_one};
 ghost use Rattle.rc_ast.specs.Names.{loc_seen};
 ghost use Rattle.rc_table.specs.Laid.{relaid};
-ghost use Rattle.rc_state.specs.Context.{Stands, in_scope};
+ghost use Rattle.rc_state.specs.Context.{IsContextOf, in_scope};
 ghost use Rattle.rc_state.specs.Under.{IsEffectUnder};
 ghost use Rattle.rc_state.specs.Point.{point_of};
 ghost use Rattle.rc_board.specs.Undo.{Keeps};
@@ -27,7 +27,7 @@ pub fn shuffle<D: Dealer>(
     frames: &Frames,
     dealer: &mut D,
 ) -> Result<(), Memory>
-    requires stands { Stands context.now board.old.laid frames.now.items }
+    requires stands { IsContextOf context.now board.old.laid frames.now.items }
     requires well { in_scope context.now IsEffectUnder (shuffle_of (loc_seen loc.now)) }
     ensures does { OnOk result (does_one context.now.about.now (D.dealing dealer.old) context.now.scope.now
         (shuffle_of (loc_seen loc.now))

@@ -3,7 +3,7 @@ ghost use Rattle.std.specs.Prelude.{◌≡◌, false, OnOk, IsOk};
 ghost use Rattle.rc_play_model.specs.Effects.{does_one};
 ghost use Rattle.rc_ast.specs.Effects.{effect_seen};
 ghost use Rattle.rc_code.specs.Implements.{HoldsNone};
-ghost use Rattle.rc_state.specs.Context.{Stands, in_scope};
+ghost use Rattle.rc_state.specs.Context.{IsContextOf, in_scope};
 ghost use Rattle.rc_state.specs.Point.{point_of};
 ghost use Rattle.rc_state.specs.Under.{IsEffectUnder};
 ghost use Rattle.rc_board.specs.Undo.{Keeps};
@@ -30,14 +30,14 @@ pub fn do_simple<D: Dealer>(
     frames: &mut Frames,
     dealer: &mut D,
 ) -> Result<(), Memory>
-    requires stands { Stands context.now board.old.laid frames.old.items }
+    requires stands { IsContextOf context.now board.old.laid frames.old.items }
     requires well { in_scope context.now IsEffectUnder (effect_seen effect.now) }
     requires simple { HoldsNone (effect_seen effect.now) }
     ensures does { OnOk result (does_one context.now.about.now (D.dealing dealer.old) context.now.scope.now
         (effect_seen effect.now)
         (point_of board.old.laid frames.old.items (D.state dealer.old))
         ≡ point_of board.new.laid frames.new.items (D.state dealer.new)) }
-    ensures stands { OnOk result (Stands context.now board.new.laid frames.new.items) }
+    ensures stands { OnOk result (IsContextOf context.now board.new.laid frames.new.items) }
     ensures keeps { Keeps board.old board.new }
     ensures quiet { board.old.notes ≡ false → IsOk result }
     ensures shuffled { ShuffledBy D.dealing D.state dealer.old dealer.new }

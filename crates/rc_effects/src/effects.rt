@@ -12,7 +12,7 @@ ghost use Rattle.rc_value.specs.Cards.{value_seen, values_seen};
 ghost use Rattle.rc_value.specs.Seen.{bind_seen};
 ghost use Rattle.rc_state.specs.Point.{point_of};
 ghost use Rattle.rc_state.specs.Under.{IsCollUnder, IsEffectUnder, AreEffectsUnder};
-ghost use Rattle.rc_state.specs.Context.{scene_in, Stands, in_scope};
+ghost use Rattle.rc_state.specs.Context.{scene_in, IsContextOf, in_scope};
 
 use crate::everyone::{set_all, set_for_each};
 use crate::moving::{move_all, move_one};
@@ -64,12 +64,12 @@ fn do_effect<D: Dealer>(
     frames: &mut Frames,
     dealer: &mut D,
 )
-    requires stands { Stands context.now table.old frames.old.items }
+    requires stands { IsContextOf context.now table.old frames.old.items }
     requires well { in_scope context.now IsEffectUnder (effect_seen effect.now) }
     ensures does { does_one context.now.about.now (D.dealing dealer.old) context.now.scope.now (effect_seen effect.now)
         (point_of table.old frames.old.items (D.state dealer.old))
         ≡ point_of table.new frames.new.items (D.state dealer.new) }
-    ensures stands { Stands context.now table.new frames.new.items }
+    ensures stands { IsContextOf context.now table.new frames.new.items }
     ensures dealing { D.dealing dealer.new ≡ D.dealing dealer.old }
 {
     match effect {
@@ -107,13 +107,13 @@ fn do_if<D: Dealer>(
     frames: &mut Frames,
     dealer: &mut D,
 )
-    requires stands { Stands context.now table.old frames.old.items }
+    requires stands { IsContextOf context.now table.old frames.old.items }
     requires well { in_scope context.now IsEffectUnder (when (test_seen test.now) (effects_seen effects.now.items)) }
     ensures does { does_one context.now.about.now (D.dealing dealer.old) context.now.scope.now
         (when (test_seen test.now) (effects_seen effects.now.items))
         (point_of table.old frames.old.items (D.state dealer.old))
         ≡ point_of table.new frames.new.items (D.state dealer.new) }
-    ensures stands { Stands context.now table.new frames.new.items }
+    ensures stands { IsContextOf context.now table.new frames.new.items }
     ensures dealing { D.dealing dealer.new ≡ D.dealing dealer.old }
 {
     if test_now(context, test, &*table, &*frames) {
@@ -130,14 +130,14 @@ fn repeat<D: Dealer>(
     frames: &mut Frames,
     dealer: &mut D,
 )
-    requires stands { Stands context.now table.old frames.old.items }
+    requires stands { IsContextOf context.now table.old frames.old.items }
     requires well { in_scope context.now IsEffectUnder
         (repeat_of (int_seen count.now) (effects_seen effects.now.items)) }
     ensures does { does_one context.now.about.now (D.dealing dealer.old) context.now.scope.now
         (repeat_of (int_seen count.now) (effects_seen effects.now.items))
         (point_of table.old frames.old.items (D.state dealer.old))
         ≡ point_of table.new frames.new.items (D.state dealer.new) }
-    ensures stands { Stands context.now table.new frames.new.items }
+    ensures stands { IsContextOf context.now table.new frames.new.items }
     ensures dealing { D.dealing dealer.new ≡ D.dealing dealer.old }
 {
     let times = times_of(int_now(context, count, &*table, &*frames));
@@ -163,14 +163,14 @@ fn for_each<D: Dealer>(
     frames: &mut Frames,
     dealer: &mut D,
 )
-    requires stands { Stands context.now table.old frames.old.items }
+    requires stands { IsContextOf context.now table.old frames.old.items }
     requires well { in_scope context.now IsEffectUnder
         (for_each_of (domain_seen domain.now) bound (effects_seen effects.now.items)) }
     ensures does { does_one context.now.about.now (D.dealing dealer.old) context.now.scope.now
         (for_each_of (domain_seen domain.now) bound (effects_seen effects.now.items))
         (point_of table.old frames.old.items (D.state dealer.old))
         ≡ point_of table.new frames.new.items (D.state dealer.new) }
-    ensures stands { Stands context.now table.new frames.new.items }
+    ensures stands { IsContextOf context.now table.new frames.new.items }
     ensures dealing { D.dealing dealer.new ≡ D.dealing dealer.old }
 {
     match domain {
@@ -191,7 +191,7 @@ fn for_players<D: Dealer>(
     frames: &mut Frames,
     dealer: &mut D,
 )
-    requires stands { Stands context.now table.old frames.old.items }
+    requires stands { IsContextOf context.now table.old frames.old.items }
     requires room { length context.now.scope.now < 5 }
     requires well { (member : PureBind CardValue)
         → AreEffectsUnder context.now.about.now.sheet (context.now.scope.now ++ member ∷ [])
@@ -201,7 +201,7 @@ fn for_players<D: Dealer>(
         (point_of table.old frames.old.items (D.state dealer.old))
         (map (λ n. player_bound n) (below context.now.about.now.sheet.players))
         ≡ point_of table.new frames.new.items (D.state dealer.new) }
-    ensures stands { Stands context.now table.new frames.new.items }
+    ensures stands { IsContextOf context.now table.new frames.new.items }
     ensures dealing { D.dealing dealer.new ≡ D.dealing dealer.old }
 {
     let mut scope = context.scope.with(Bind::Player(0));
@@ -221,7 +221,7 @@ fn for_cards<D: Dealer>(
     frames: &mut Frames,
     dealer: &mut D,
 )
-    requires stands { Stands context.now table.old frames.old.items }
+    requires stands { IsContextOf context.now table.old frames.old.items }
     requires cards { in_scope context.now IsCollUnder (coll_seen cards.now) }
     requires room { length context.now.scope.now < 5 }
     requires well { (member : PureBind CardValue)
@@ -233,7 +233,7 @@ fn for_cards<D: Dealer>(
         (map (λ c. card_bound c) (coll_value (scene_in context.now table.old frames.old.items) context.now.scope.now
         (coll_seen cards.now)))
         ≡ point_of table.new frames.new.items (D.state dealer.new) }
-    ensures stands { Stands context.now table.new frames.new.items }
+    ensures stands { IsContextOf context.now table.new frames.new.items }
     ensures dealing { D.dealing dealer.new ≡ D.dealing dealer.old }
 {
     let mut few = FewCards::new();
@@ -254,7 +254,7 @@ fn for_many<D: Dealer>(
     frames: &mut Frames,
     dealer: &mut D,
 )
-    requires stands { Stands context.now table.old frames.old.items }
+    requires stands { IsContextOf context.now table.old frames.old.items }
     requires cards { in_scope context.now IsCollUnder (coll_seen cards.now) }
     requires room { length context.now.scope.now < 5 }
     requires well { (member : PureBind CardValue)
@@ -266,7 +266,7 @@ fn for_many<D: Dealer>(
         (map (λ c. card_bound c) (coll_value (scene_in context.now table.old frames.old.items) context.now.scope.now
         (coll_seen cards.now)))
         ≡ point_of table.new frames.new.items (D.state dealer.new) }
-    ensures stands { Stands context.now table.new frames.new.items }
+    ensures stands { IsContextOf context.now table.new frames.new.items }
     ensures dealing { D.dealing dealer.new ≡ D.dealing dealer.old }
 {
     let mut room = Cards::new();
@@ -285,7 +285,7 @@ fn for_these<D: Dealer>(
     frames: &mut Frames,
     dealer: &mut D,
 )
-    requires stands { Stands context.now table.old frames.old.items }
+    requires stands { IsContextOf context.now table.old frames.old.items }
     requires cards { All (λ card. IsCardOf context.now.about.now.shape (value_seen card)) cards.now }
     requires room { length context.now.scope.now < 5 }
     requires well { (member : PureBind CardValue)
@@ -295,7 +295,7 @@ fn for_these<D: Dealer>(
         (context.now.scope.now ++ member ∷ []) (effects_seen effects.now.items) mid)
         (point_of table.old frames.old.items (D.state dealer.old)) (map (λ c. card_bound c) (values_seen cards.now))
         ≡ point_of table.new frames.new.items (D.state dealer.new) }
-    ensures stands { Stands context.now table.new frames.new.items }
+    ensures stands { IsContextOf context.now table.new frames.new.items }
     ensures dealing { D.dealing dealer.new ≡ D.dealing dealer.old }
 {
     let mut scope = context.scope.with(Bind::Player(0));
@@ -317,7 +317,7 @@ fn do_for<'g, D: Dealer>(
     frames: &mut Frames,
     dealer: &mut D,
 )
-    requires stands { Stands context.now table.old frames.old.items }
+    requires stands { IsContextOf context.now table.old frames.old.items }
     requires scope { (other : PureBind CardValue) × (scope.old ≡ context.now.scope.now ++ other ∷ []) }
     requires bind { IsBindOf context.now.about.now.shape (bind_seen bind) }
     requires well { AreEffectsUnder context.now.about.now.sheet (context.now.scope.now ++ bind_seen bind ∷ [])
@@ -327,7 +327,7 @@ fn do_for<'g, D: Dealer>(
         (point_of table.old frames.old.items (D.state dealer.old))
         ≡ point_of table.new frames.new.items (D.state dealer.new) }
     ensures scope { (other : PureBind CardValue) × (scope.new ≡ context.now.scope.now ++ other ∷ []) }
-    ensures stands { Stands context.now table.new frames.new.items }
+    ensures stands { IsContextOf context.now table.new frames.new.items }
     ensures dealing { D.dealing dealer.new ≡ D.dealing dealer.old }
 {
     scope.rebind(bind);
@@ -348,13 +348,13 @@ pub(crate) fn do_all<D: Dealer>(
     frames: &mut Frames,
     dealer: &mut D,
 )
-    requires stands { Stands context.now table.old frames.old.items }
+    requires stands { IsContextOf context.now table.old frames.old.items }
     requires well { in_scope context.now AreEffectsUnder (effects_seen effects.now.items) }
     ensures does { does context.now.about.now (D.dealing dealer.old) context.now.scope.now
         (effects_seen effects.now.items)
         (point_of table.old frames.old.items (D.state dealer.old))
         ≡ point_of table.new frames.new.items (D.state dealer.new) }
-    ensures stands { Stands context.now table.new frames.new.items }
+    ensures stands { IsContextOf context.now table.new frames.new.items }
     ensures dealing { D.dealing dealer.new ≡ D.dealing dealer.old }
 {
     for effect in effects {

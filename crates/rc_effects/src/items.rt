@@ -14,7 +14,7 @@ ghost use Rattle.rc_value.specs.Seen.{bind_seen};
 ghost use Rattle.rc_state.specs.Point.{point_of};
 ghost use Rattle.rc_state.specs.Under.{IsAltUnder, IsDomainUnder};
 ghost use Rattle.rc_state.specs.Bindings.{AreAltsOutside};
-ghost use Rattle.rc_state.specs.Context.{scene_in, Stands, in_scope};
+ghost use Rattle.rc_state.specs.Context.{scene_in, IsContextOf, in_scope};
 
 use crate::effects::do_all;
 use rc_ast::{Alt, Domain};
@@ -68,7 +68,7 @@ fn do_alt<D: Dealer>(
     frames: &mut Frames,
     dealer: &mut D,
 )
-    requires stands { Stands context.now table.old frames.old.items }
+    requires stands { IsContextOf context.now table.old frames.old.items }
     requires well { in_scope context.now IsAltUnder (alt_seen alt.now) }
     ensures does { does context.now.about.now (D.dealing dealer.old)
         (bindings_of (scene_in context.now table.old frames.old.items) context.now.scope.now
@@ -98,7 +98,7 @@ fn do_any<D: Dealer>(
     frames: &mut Frames,
     dealer: &mut D,
 )
-    requires stands { Stands context.now table.old frames.old.items }
+    requires stands { IsContextOf context.now table.old frames.old.items }
     requires domain { in_scope context.now IsDomainUnder (domain_seen domain.now) }
     requires room { length context.now.scope.now < 5 }
     requires well { (member : PureBind CardValue)
@@ -135,7 +135,7 @@ fn do_member<D: Dealer>(
     frames: &mut Frames,
     dealer: &mut D,
 )
-    requires stands { Stands context.now table.old frames.old.items }
+    requires stands { IsContextOf context.now table.old frames.old.items }
     requires domain { in_scope context.now IsDomainUnder (domain_seen domain.now) }
     requires room { length context.now.scope.now < 5 }
     requires well { (member : PureBind CardValue)
@@ -167,7 +167,7 @@ fn do_bound<D: Dealer>(
     frames: &mut Frames,
     dealer: &mut D,
 )
-    requires stands { Stands context.now table.old frames.old.items }
+    requires stands { IsContextOf context.now table.old frames.old.items }
     requires room { length context.now.scope.now < 5 }
     requires bind { IsBindOf context.now.about.now.shape (bind_seen bind) }
     requires well { IsAltUnder context.now.about.now.sheet (context.now.scope.now ++ bind_seen bind ∷ [])

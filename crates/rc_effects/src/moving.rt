@@ -11,7 +11,7 @@ ghost use Rattle.rc_ast.specs.Effects.{end_seen};
 ghost use Rattle.rc_table.specs.Laid.{relaid};
 ghost use Rattle.rc_table.specs.Runs.{put_each};
 ghost use Rattle.rc_value.specs.Cards.{value_seen, values_seen};
-ghost use Rattle.rc_state.specs.Context.{scene_in, Stands, in_scope};
+ghost use Rattle.rc_state.specs.Context.{scene_in, IsContextOf, in_scope};
 ghost use Rattle.rc_state.specs.Under.{IsCollUnder, IsEffectUnder};
 ghost use Rattle.rc_state.specs.Leads.{LeadsTo};
 
@@ -36,12 +36,12 @@ pub fn move_one(
     table: &mut Table,
     frames: &Frames,
 )
-    requires stands { Stands context.now table.old frames.now.items }
+    requires stands { IsContextOf context.now table.old frames.now.items }
     requires well { in_scope context.now IsEffectUnder (move (card_seen card.now) (end_seen end) (loc_seen loc.now)) }
     ensures leads { LeadsTo context.now
         (move (card_seen card.now) (end_seen end)
         (loc_seen loc.now)) table.old frames.now.items table.new frames.now.items }
-    ensures stands { Stands context.now table.new frames.now.items }
+    ensures stands { IsContextOf context.now table.new frames.now.items }
 {
     let Some(at) = loc_now(context, loc, &*table, frames) else {
         return;
@@ -61,13 +61,13 @@ pub fn move_all(
     table: &mut Table,
     frames: &Frames,
 )
-    requires stands { Stands context.now table.old frames.now.items }
+    requires stands { IsContextOf context.now table.old frames.now.items }
     requires well { in_scope context.now IsEffectUnder
         (move_all_of (coll_seen cards.now) (end_seen end) (loc_seen loc.now)) }
     ensures leads { LeadsTo context.now
         (move_all_of (coll_seen cards.now) (end_seen end)
         (loc_seen loc.now)) table.old frames.now.items table.new frames.now.items }
-    ensures stands { Stands context.now table.new frames.now.items }
+    ensures stands { IsContextOf context.now table.new frames.now.items }
 {
     let Some(at) = loc_now(context, loc, &*table, frames) else {
         return;
@@ -88,7 +88,7 @@ fn put_some(
     table: &mut Table,
     frames: &Frames,
 )
-    requires stands { Stands context.now table.old frames.now.items }
+    requires stands { IsContextOf context.now table.old frames.now.items }
     requires well { in_scope context.now IsCollUnder (coll_seen cards.now) }
     requires holds { HoldsCards table.old.shape at }
     ensures { table.new ≡ relaid table.old (fold (move_card table.old.shape (end_seen end) at) table.old.table
@@ -111,7 +111,7 @@ fn put_many(
     table: &mut Table,
     frames: &Frames,
 )
-    requires stands { Stands context.now table.old frames.now.items }
+    requires stands { IsContextOf context.now table.old frames.now.items }
     requires well { in_scope context.now IsCollUnder (coll_seen cards.now) }
     requires holds { HoldsCards table.old.shape at }
     ensures { table.new ≡ relaid table.old (fold (move_card table.old.shape (end_seen end) at) table.old.table

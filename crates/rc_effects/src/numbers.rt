@@ -5,7 +5,7 @@ ghost use Rattle.rc_play_model.specs.Effects as effects;
 ghost use Rattle.rc_ast.specs.Names.{num_seen};
 ghost use Rattle.rc_ast.specs.Expressions.{int_seen};
 ghost use Rattle.rc_table.specs.Laid.{relaid};
-ghost use Rattle.rc_state.specs.Context.{Stands, in_scope};
+ghost use Rattle.rc_state.specs.Context.{IsContextOf, in_scope};
 ghost use Rattle.rc_state.specs.Under.{IsEffectUnder};
 ghost use Rattle.rc_state.specs.Leads.{LeadsTo, effect_by, new_by};
 
@@ -23,11 +23,11 @@ pub fn change_number(
     table: &mut Table,
     frames: &Frames,
 )
-    requires stands { Stands context.now table.old frames.now.items }
+    requires stands { IsContextOf context.now table.old frames.now.items }
     requires well { in_scope context.now IsEffectUnder (effect_by how (num_seen num.now) (int_seen value.now)) }
     ensures leads { LeadsTo context.now
         (effect_by how (num_seen num.now) (int_seen value.now)) table.old frames.now.items table.new frames.now.items }
-    ensures stands { Stands context.now table.new frames.now.items }
+    ensures stands { IsContextOf context.now table.new frames.now.items }
 {
     let Some(at) = num_now(context, num, &*table, frames) else {
         return;

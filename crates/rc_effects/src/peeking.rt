@@ -7,7 +7,7 @@ ghost use Rattle.rc_ast.specs.Names.{who_seen};
 ghost use Rattle.rc_ast.specs.Expressions.{coll_seen};
 ghost use Rattle.rc_table.specs.Laid.{relaid};
 ghost use Rattle.rc_value.specs.Cards.{value_seen, values_seen};
-ghost use Rattle.rc_state.specs.Context.{Stands, in_scope};
+ghost use Rattle.rc_state.specs.Context.{IsContextOf, in_scope};
 ghost use Rattle.rc_state.specs.Under.{IsEffectUnder};
 ghost use Rattle.rc_state.specs.Leads.{LeadsTo};
 
@@ -20,11 +20,11 @@ use rc_value::{Card, Cards};
 /// Shows cards to a player, or to each member of a team. Which cards they are is read before the first one is shown.
 #[inline(never)]
 pub fn peek(context: &Context, cards: &CollExpr, who: Who, table: &mut Table, frames: &Frames)
-    requires stands { Stands context.now table.old frames.now.items }
+    requires stands { IsContextOf context.now table.old frames.now.items }
     requires well { in_scope context.now IsEffectUnder (peek_of (coll_seen cards.now) (who_seen who)) }
     ensures leads { LeadsTo context.now (peek_of (coll_seen cards.now) (who_seen who))
         table.old frames.now.items table.new frames.now.items }
-    ensures stands { Stands context.now table.new frames.now.items }
+    ensures stands { IsContextOf context.now table.new frames.now.items }
 {
     let owner = who_now(context, who, &*table, frames);
     let mut room = Cards::new();

@@ -9,7 +9,7 @@ ghost use Rattle.rc_ast.specs.Effects.{end_seen};
 ghost use Rattle.rc_play_model.specs.Scene.{id_of as id_in};
 ghost use Rattle.rc_table.specs.Laid.{relaid};
 ghost use Rattle.rc_value.specs.Cards.{value_seen};
-ghost use Rattle.rc_state.specs.Context.{Stands, in_scope};
+ghost use Rattle.rc_state.specs.Context.{IsContextOf, in_scope};
 ghost use Rattle.rc_state.specs.Under.{IsEffectUnder};
 ghost use Rattle.rc_state.specs.Leads.{LeadsTo};
 
@@ -28,13 +28,13 @@ pub fn remember(
     table: &mut Table,
     frames: &Frames,
 )
-    requires stands { Stands context.now table.old frames.now.items }
+    requires stands { IsContextOf context.now table.old frames.now.items }
     requires well { in_scope context.now IsEffectUnder
         (remember_of (card_seen card.now) (end_seen end) (loc_seen loc.now)) }
     ensures leads { LeadsTo context.now
         (remember_of (card_seen card.now) (end_seen end)
         (loc_seen loc.now)) table.old frames.now.items table.new frames.now.items }
-    ensures stands { Stands context.now table.new frames.now.items }
+    ensures stands { IsContextOf context.now table.new frames.now.items }
 {
     let Some(at) = loc_now(context, loc, &*table, frames) else {
         return;
@@ -67,11 +67,11 @@ fn id_of(card: Card) -> u16
 
 /// Takes a reference with the card's face out of the location in which the reference to it was read.
 pub fn forget(context: &Context, card: &CardExpr, table: &mut Table, frames: &Frames)
-    requires stands { Stands context.now table.old frames.now.items }
+    requires stands { IsContextOf context.now table.old frames.now.items }
     requires well { in_scope context.now IsEffectUnder (forget_of (card_seen card.now)) }
     ensures leads { LeadsTo context.now
         (forget_of (card_seen card.now)) table.old frames.now.items table.new frames.now.items }
-    ensures stands { Stands context.now table.new frames.now.items }
+    ensures stands { IsContextOf context.now table.new frames.now.items }
 {
     let Some(card) = card_now(context, card, &*table, frames) else {
         return;

@@ -5,7 +5,7 @@ ghost use Rattle.rc_play_model.specs.Table.{list_at, reorder};
 ghost use Rattle.rc_play_model.specs.Effects.{does_one};
 ghost use Rattle.rc_ast.specs.Names.{loc_seen};
 ghost use Rattle.rc_table.specs.Laid.{relaid};
-ghost use Rattle.rc_state.specs.Context.{Stands, in_scope};
+ghost use Rattle.rc_state.specs.Context.{IsContextOf, in_scope};
 ghost use Rattle.rc_state.specs.Under.{IsEffectUnder};
 ghost use Rattle.rc_state.specs.Point.{point_of};
 
@@ -22,13 +22,13 @@ pub fn shuffle<D: Dealer>(
     frames: &Frames,
     dealer: &mut D,
 )
-    requires stands { Stands context.now table.old frames.now.items }
+    requires stands { IsContextOf context.now table.old frames.now.items }
     requires well { in_scope context.now IsEffectUnder (shuffle_of (loc_seen loc.now)) }
     ensures does { does_one context.now.about.now (D.dealing dealer.old) context.now.scope.now
         (shuffle_of (loc_seen loc.now))
         (point_of table.old frames.now.items (D.state dealer.old))
         ≡ point_of table.new frames.now.items (D.state dealer.new) }
-    ensures stands { Stands context.now table.new frames.now.items }
+    ensures stands { IsContextOf context.now table.new frames.now.items }
     ensures dealing { D.dealing dealer.new ≡ D.dealing dealer.old }
 {
     let Some(at) = loc_now(context, loc, &*table, frames) else {

@@ -17,7 +17,7 @@ ghost use Rattle.rc_value.specs.Cards.{value_seen};
 ghost use Rattle.rc_value.specs.Current.{IsCurrent};
 ghost use Rattle.rc_value.specs.Seen.{bind_seen};
 ghost use Rattle.rc_menu.specs.Bounds.{IsAltOutside};
-ghost use Rattle.rc_state.specs.Context.{scene_in, Stands};
+ghost use Rattle.rc_state.specs.Context.{scene_in, IsContextOf};
 ghost use Rattle.rc_state.specs.Under.{IsAltUnder, IsDomainUnder};
 
 use rc_ast::{Alt, Domain};
@@ -72,7 +72,7 @@ fn note_any(
     frames: &Frames,
     bounds: &mut Bounds,
 )
-    requires stands { Stands context.now table.now frames.now.items }
+    requires stands { IsContextOf context.now table.now frames.now.items }
     requires domain { IsDomainUnder context.now.about.now.sheet context.now.scope.now (domain_seen domain.now) }
     requires well { (member : PureBind CardValue)
         → IsAltUnder context.now.about.now.sheet (context.now.scope.now ++ member ∷ []) (alt_seen inner.now) }
@@ -104,7 +104,7 @@ fn note_member(
     frames: &Frames,
     bounds: &mut Bounds,
 )
-    requires stands { Stands context.now table.now frames.now.items }
+    requires stands { IsContextOf context.now table.now frames.now.items }
     requires domain { IsDomainUnder context.now.about.now.sheet context.now.scope.now (domain_seen domain.now) }
     requires well { (member : PureBind CardValue)
         → IsAltUnder context.now.about.now.sheet (context.now.scope.now ++ member ∷ []) (alt_seen inner.now) }
@@ -131,7 +131,7 @@ fn note_bound(
     frames: &Frames,
     bounds: &mut Bounds,
 )
-    requires stands { Stands context.now table.now frames.now.items }
+    requires stands { IsContextOf context.now table.now frames.now.items }
     requires bind { IsBindOf context.now.about.now.shape (bind_seen bind) }
     requires well { IsAltUnder context.now.about.now.sheet (context.now.scope.now ++ bind_seen bind ∷ [])
         (alt_seen inner.now) }

@@ -20,7 +20,7 @@ abbrev pub scene_in : Context → Laid → List Frame → Scene CardValue
 scene_in context laid frames = scene_at context.about.now laid.table (frames_seen frames)
 
 -- the table is laid for the shape, the context knows who is current in the open stages, and variables stand for what the shape has
-abbrev pub Stands : Context → Laid → List Frame → Type 0
-Stands context laid frames =
+abbrev pub IsContextOf : Context → Laid → List Frame → Type 0
+IsContextOf context laid frames =
     (laid.shape ≡ context.about.now.shape) × IsCurrent context.about.now.sheet (frames_seen frames) context.current
     × All (IsBindOf context.about.now.shape) context.scope.now

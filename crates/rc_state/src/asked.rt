@@ -3,7 +3,7 @@ ghost use Rattle.std.specs.Prelude.{◌≡◌};
 ghost use Rattle.rc_sheet_model.specs.Sheet.{and_of, no_test, test};
 ghost use Rattle.rc_play_model.specs.Value.{test_value};
 ghost use Rattle.rc_asked.specs.Meaning.{comparison_meant};
-ghost use Rattle.rc_state.specs.Context.{scene_in, Stands, in_scope};
+ghost use Rattle.rc_state.specs.Context.{scene_in, IsContextOf, in_scope};
 ghost use Rattle.rc_state.specs.Under.{IsTestUnder};
 
 use crate::context::{Context, scene_now};
@@ -16,7 +16,7 @@ use rc_value::comparison_holds;
 // In functions of their own, so that little stands in line where a test is asked.
 #[inline(never)]
 fn comparison_now(context: &Context, comparison: &Comparison, table: &Table, frames: &Frames) -> bool
-    requires stands { Stands context.now table.now frames.now.items }
+    requires stands { IsContextOf context.now table.now frames.now.items }
     ensures { result ≡ test_value (scene_in context.now table.now frames.now.items) context.now.scope.now
         (comparison_meant comparison.now) }
 {
@@ -25,7 +25,7 @@ fn comparison_now(context: &Context, comparison: &Comparison, table: &Table, fra
 
 #[inline(never)]
 fn both_now(context: &Context, one: &Comparison, other: &Comparison, table: &Table, frames: &Frames) -> bool
-    requires stands { Stands context.now table.now frames.now.items }
+    requires stands { IsContextOf context.now table.now frames.now.items }
     ensures { result ≡ test_value (scene_in context.now table.now frames.now.items) context.now.scope.now
         (and_of (test (comparison_meant one.now) (test (comparison_meant other.now) no_test))) }
 {
@@ -36,7 +36,7 @@ fn both_now(context: &Context, one: &Comparison, other: &Comparison, table: &Tab
 /// Whether a test holds.
 #[inline(always)]
 pub fn asked_now(context: &Context, asked: &CompiledTest, table: &Table, frames: &Frames) -> bool
-    requires stands { Stands context.now table.now frames.now.items }
+    requires stands { IsContextOf context.now table.now frames.now.items }
     requires well { in_scope context.now IsTestUnder asked.now }
     ensures { result ≡ test_value (scene_in context.now table.now frames.now.items) context.now.scope.now asked.now }
 {

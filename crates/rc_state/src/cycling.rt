@@ -7,7 +7,7 @@ ghost use Rattle.rc_play_model.specs.Owners.{is_stage_of as is_of_class};
 ghost use Rattle.rc_play_model.specs.Effects.{named_next, turned};
 ghost use Rattle.rc_ast.specs.Names.{who_seen};
 ghost use Rattle.rc_rules.specs.Control.{frames_seen};
-ghost use Rattle.rc_state.specs.Context.{Stands};
+ghost use Rattle.rc_state.specs.Context.{IsContextOf};
 ghost use Rattle.rc_state.specs.Leads.{LeadsTo};
 ghost use Rattle.rc_state.specs.Innermost.{IsInnermost};
 
@@ -19,9 +19,9 @@ use rc_table::Table;
 
 /// Names who comes next in the innermost stage of the class, whoever was named before.
 pub fn name_next(context: &Context, who: Who, table: &Table, frames: &mut Frames)
-    requires stands { Stands context.now table.now frames.old.items }
+    requires stands { IsContextOf context.now table.now frames.old.items }
     ensures leads { LeadsTo context.now (next_is (who_seen who)) table.now frames.old.items table.now frames.new.items }
-    ensures stands { Stands context.now table.now frames.new.items }
+    ensures stands { IsContextOf context.now table.now frames.new.items }
 {
     let member = who_now(context, who, table, &*frames);
     name_in(context.about, class_of(who), member, frames.as_mut_slice());
@@ -56,9 +56,9 @@ fn innermost(about: &About, class: Class, frames: &[Frame]) -> Option<usize>
 
 /// Turns the innermost stage, of whatever class, the other way round.
 pub fn turn_round(context: &Context, table: &Table, frames: &mut Frames)
-    requires stands { Stands context.now table.now frames.old.items }
+    requires stands { IsContextOf context.now table.now frames.old.items }
     ensures leads { LeadsTo context.now turn_round_of table.now frames.old.items table.now frames.new.items }
-    ensures stands { Stands context.now table.now frames.new.items }
+    ensures stands { IsContextOf context.now table.now frames.new.items }
 {
     turn_innermost(frames.as_mut_slice());
 }

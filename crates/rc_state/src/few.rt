@@ -4,7 +4,7 @@ ghost use Rattle.rc_play_model.specs.Value.{coll_value};
 ghost use Rattle.rc_play_model.specs.Bound.{IsCardOf};
 ghost use Rattle.rc_ast.specs.Expressions.{coll_seen};
 ghost use Rattle.rc_value.specs.Cards.{value_seen, values_seen};
-ghost use Rattle.rc_state.specs.Context.{scene_in, Stands, in_scope};
+ghost use Rattle.rc_state.specs.Context.{scene_in, IsContextOf, in_scope};
 ghost use Rattle.rc_state.specs.Under.{IsCollUnder};
 
 use crate::context::{Context, scene_now};
@@ -26,7 +26,7 @@ pub fn few_cards_now(
     frames: &Frames,
     out: &mut FewCards,
 ) -> bool
-    requires stands { Stands context.now table.now frames.now.items }
+    requires stands { IsContextOf context.now table.now frames.now.items }
     requires well { in_scope context.now IsCollUnder (coll_seen expr.now) }
     requires empty { out.old.items ≡ [] }
     ensures is { result ≡ true → values_seen out.new.items
@@ -47,7 +47,7 @@ fn write_bare(
     frames: &Frames,
     out: &mut FewCards,
 ) -> bool
-    requires stands { Stands context.now table.now frames.now.items }
+    requires stands { IsContextOf context.now table.now frames.now.items }
     requires empty { out.old.items ≡ [] }
     ensures { result ≡ true → values_seen out.new.items
         ≡ coll_value (scene_in context.now table.now frames.now.items) context.now.scope.now (coll_seen expr.now) }
@@ -82,7 +82,7 @@ pub fn sole_card_now(
     table: &Table,
     frames: &Frames,
 ) -> Option<Card>
-    requires stands { Stands context.now table.now frames.now.items }
+    requires stands { IsContextOf context.now table.now frames.now.items }
     requires well { in_scope context.now IsCollUnder (coll_seen expr.now) }
     ensures is { IfSome result (λ card. coll_value
         (scene_in context.now table.now frames.now.items) context.now.scope.now (coll_seen expr.now)
@@ -97,7 +97,7 @@ pub fn sole_card_now(
 
 #[inline(always)]
 fn sole_bare(context: &Context, expr: &CollExpr, table: &Table, frames: &Frames) -> Option<Card>
-    requires stands { Stands context.now table.now frames.now.items }
+    requires stands { IsContextOf context.now table.now frames.now.items }
     ensures { IfSome result (λ card. coll_value (scene_in context.now table.now frames.now.items) context.now.scope.now
         (coll_seen expr.now) ≡ value_seen card ∷ []) }
 {

@@ -8,7 +8,7 @@ ghost use Rattle.rc_ast.specs.Expressions.{coll_seen, domain_seen};
 ghost use Rattle.rc_value.specs.Cards.{values_seen};
 ghost use Rattle.rc_value.specs.Seen.{bind_seen};
 ghost use Rattle.rc_state.specs.Bindings.{member_seen};
-ghost use Rattle.rc_state.specs.Context.{scene_in, Stands, in_scope};
+ghost use Rattle.rc_state.specs.Context.{scene_in, IsContextOf, in_scope};
 ghost use Rattle.rc_state.specs.Under.{IsCollUnder, IsDomainUnder};
 
 use crate::context::{Context, scene_now};
@@ -47,7 +47,7 @@ pub fn member_at(
     frames: &Frames,
     room: &mut Cards,
 ) -> Member
-    requires stands { Stands context.now table.now frames.now.items }
+    requires stands { IsContextOf context.now table.now frames.now.items }
     requires well { in_scope context.now IsDomainUnder (domain_seen domain.now) }
     requires empty { room.old.items ≡ [] }
     ensures is { member_seen result (values_seen room.new.items)
@@ -85,7 +85,7 @@ fn card_at(
     frames: &Frames,
     room: &mut Cards,
 ) -> Member
-    requires stands { Stands context.now table.now frames.now.items }
+    requires stands { IsContextOf context.now table.now frames.now.items }
     requires well { in_scope context.now IsCollUnder (coll_seen cards.now) }
     requires empty { room.old.items ≡ [] }
     ensures { member_seen result (values_seen room.new.items) ≡ slice_index_or
@@ -108,7 +108,7 @@ fn group_at(
     frames: &Frames,
     group: &mut Cards,
 ) -> Member
-    requires stands { Stands context.now table.now frames.now.items }
+    requires stands { IsContextOf context.now table.now frames.now.items }
     requires well { in_scope context.now IsCollUnder (coll_seen cards.now) }
     ensures { member_seen result (values_seen group.new.items) ≡ slice_index_or
         (map (λ g. group_bound g) (groups_by (scene_in context.now table.now frames.now.items) attr
@@ -141,7 +141,7 @@ pub fn bare_bind_at<'m>(
     table: &Table,
     frames: &Frames,
 ) -> Option<Bind<'m>>
-    requires stands { Stands context.now table.now frames.now.items }
+    requires stands { IsContextOf context.now table.now frames.now.items }
     requires well { in_scope context.now IsDomainUnder (domain_seen domain.now) }
     ensures is { IfSome result (λ bind. bind_seen bind
         ≡ slice_index_or (members (scene_in context.now table.now frames.now.items) context.now.scope.now
@@ -162,7 +162,7 @@ fn bound_at<'m>(
     table: &Table,
     frames: &Frames,
 ) -> Option<Bind<'m>>
-    requires stands { Stands context.now table.now frames.now.items }
+    requires stands { IsContextOf context.now table.now frames.now.items }
     ensures { IfSome result (λ bind. bind_seen bind
         ≡ slice_index_or (members (scene_in context.now table.now frames.now.items) context.now.scope.now
         (domain_seen domain.now)) spot (player_bound 0)) }
@@ -182,7 +182,7 @@ fn bare_card_at<'m>(
     table: &Table,
     frames: &Frames,
 ) -> Option<Bind<'m>>
-    requires stands { Stands context.now table.now frames.now.items }
+    requires stands { IsContextOf context.now table.now frames.now.items }
     ensures { IfSome result (λ bind. bind_seen bind ≡ slice_index_or
         (map (λ c. card_bound c) (coll_value (scene_in context.now table.now frames.now.items) context.now.scope.now
         (coll_seen cards.now))) spot (player_bound 0)) }

@@ -8,7 +8,7 @@ ghost use Rattle.rc_ast.specs.Names.{who_seen, loc_seen, num_seen};
 ghost use Rattle.rc_ast.specs.Expressions.{card_seen, coll_seen, int_seen, test_seen};
 ghost use Rattle.rc_value.specs.Cards.{value_seen, values_seen};
 ghost use Rattle.rc_value.specs.Depth.{card_depth, int_depth};
-ghost use Rattle.rc_state.specs.Context.{scene_in, Stands, in_scope};
+ghost use Rattle.rc_state.specs.Context.{scene_in, IsContextOf, in_scope};
 ghost use Rattle.rc_state.specs.Under.{IsCardUnder, IsCollUnder, IsIntUnder, IsTestUnder};
 ghost use Rattle.rc_state.specs.Leads.{HoldsAs};
 
@@ -24,7 +24,7 @@ use rc_value::{
 /// The card that an expression stands for, if there is one.
 #[inline(always)]
 pub fn card_now(context: &Context, expr: &CardExpr, table: &Table, frames: &Frames) -> Option<Card>
-    requires stands { Stands context.now table.now frames.now.items }
+    requires stands { IsContextOf context.now table.now frames.now.items }
     requires well { in_scope context.now IsCardUnder (card_seen expr.now) }
     ensures is { option_map value_seen result
         ≡ card_value (scene_in context.now table.now frames.now.items) context.now.scope.now (card_seen expr.now) }
@@ -40,7 +40,7 @@ pub fn card_now(context: &Context, expr: &CardExpr, table: &Table, frames: &Fram
 // The same. What a variable stands for is read without a scene.
 #[inline(always)]
 fn found_card(context: &Context, expr: &CardExpr, table: &Table, frames: &Frames) -> Option<Card>
-    requires stands { Stands context.now table.now frames.now.items }
+    requires stands { IsContextOf context.now table.now frames.now.items }
     requires fits { length context.now.scope.now + card_depth (card_seen expr.now) ≤ 5 }
     ensures { option_map value_seen result
         ≡ card_value (scene_in context.now table.now frames.now.items) context.now.scope.now (card_seen expr.now) }
@@ -59,7 +59,7 @@ pub fn cards_now(
     frames: &Frames,
     out: &mut Cards,
 )
-    requires stands { Stands context.now table.now frames.now.items }
+    requires stands { IsContextOf context.now table.now frames.now.items }
     requires well { in_scope context.now IsCollUnder (coll_seen expr.now) }
     requires empty { out.old.items ≡ [] }
     ensures is { values_seen out.new.items
@@ -76,7 +76,7 @@ pub fn cards_now(
 /// The number that an expression stands for.
 #[inline(always)]
 pub fn int_now(context: &Context, expr: &IntExpr, table: &Table, frames: &Frames) -> i64
-    requires stands { Stands context.now table.now frames.now.items }
+    requires stands { IsContextOf context.now table.now frames.now.items }
     requires well { in_scope context.now IsIntUnder (int_seen expr.now) }
     ensures is { result ≡ int_value (scene_in context.now table.now frames.now.items) context.now.scope.now
         (int_seen expr.now) }
@@ -92,7 +92,7 @@ pub fn int_now(context: &Context, expr: &IntExpr, table: &Table, frames: &Frames
 // The same. A number that is written out is read without a scene.
 #[inline(always)]
 fn found_int(context: &Context, expr: &IntExpr, table: &Table, frames: &Frames) -> i64
-    requires stands { Stands context.now table.now frames.now.items }
+    requires stands { IsContextOf context.now table.now frames.now.items }
     requires fits { length context.now.scope.now + int_depth (int_seen expr.now) ≤ 5 }
     ensures { result ≡ int_value (scene_in context.now table.now frames.now.items) context.now.scope.now
         (int_seen expr.now) }
@@ -106,7 +106,7 @@ fn found_int(context: &Context, expr: &IntExpr, table: &Table, frames: &Frames) 
 /// Whether a test holds.
 #[inline(always)]
 pub fn test_now(context: &Context, expr: &Test, table: &Table, frames: &Frames) -> bool
-    requires stands { Stands context.now table.now frames.now.items }
+    requires stands { IsContextOf context.now table.now frames.now.items }
     requires well { in_scope context.now IsTestUnder (test_seen expr.now) }
     ensures { result ≡ test_value (scene_in context.now table.now frames.now.items) context.now.scope.now
         (test_seen expr.now) }
@@ -118,7 +118,7 @@ pub fn test_now(context: &Context, expr: &Test, table: &Table, frames: &Frames) 
 /// The number of an owner.
 #[inline(always)]
 pub fn who_now(context: &Context, who: Who, table: &Table, frames: &Frames) -> u8
-    requires stands { Stands context.now table.now frames.now.items }
+    requires stands { IsContextOf context.now table.now frames.now.items }
     ensures { result ≡ who_value (scene_in context.now table.now frames.now.items).known context.now.scope.now
         (who_seen who) }
 {
@@ -128,7 +128,7 @@ pub fn who_now(context: &Context, who: Who, table: &Table, frames: &Frames) -> u
 /// The location that is meant, if there is one.
 #[inline(always)]
 pub fn loc_now(context: &Context, loc: &Loc, table: &Table, frames: &Frames) -> Option<u16>
-    requires stands { Stands context.now table.now frames.now.items }
+    requires stands { IsContextOf context.now table.now frames.now.items }
     ensures is { result ≡ loc_place (scene_in context.now table.now frames.now.items).known context.now.scope.now
         (loc_seen loc.now) }
     ensures holds { IfSome result (λ at. HoldsAs context.now.about.now.shape
@@ -142,7 +142,7 @@ pub fn loc_now(context: &Context, loc: &Loc, table: &Table, frames: &Frames) -> 
 /// The place of the number that is meant, if there is one.
 #[inline(always)]
 pub fn num_now(context: &Context, num: &Num, table: &Table, frames: &Frames) -> Option<u16>
-    requires stands { Stands context.now table.now frames.now.items }
+    requires stands { IsContextOf context.now table.now frames.now.items }
     ensures { result ≡ num_place (scene_in context.now table.now frames.now.items).known context.now.scope.now
         (num_seen num.now) }
 {

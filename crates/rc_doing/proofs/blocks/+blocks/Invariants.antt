@@ -11,7 +11,7 @@ use Rattle.rc_code.specs.Seen.{list_seen}
 use Rattle.rc_code.specs.Implements.{AreSimple}
 use Rattle.rc_state.specs.Point.{point_of}
 use Rattle.rc_state.specs.Under.{AreEffectsUnder}
-use Rattle.rc_state.specs.Context.{Stands}
+use Rattle.rc_state.specs.Context.{IsContextOf}
 use Rattle.rc_board.specs.Undo.{Keeps}
 use Rattle.rc_doing.proofs.blocks.+blocks.Given as goal
 
@@ -51,7 +51,7 @@ abbrev pub invariant-do_block-loop-first : goal.invariant-do_block-loop-first
 invariant-do_block-loop-first g l =
     record {
       shorter : length l.rest ≤ length l.fn.code;
-      stands : Stands l.context l.board.laid l.frames.items;
+      stands : IsContextOf l.context l.board.laid l.frames.items;
       keeps : Keeps l.fn.board l.board;
       dealing : g.D.Dealer.dealing l.dealer ≡ g.D.Dealer.dealing l.fn.dealer;
       shuffled : HasShuffled (g.D.Dealer.dealing l.fn.dealer) (g.D.Dealer.state l.fn.dealer) (g.D.Dealer.state l.dealer);
@@ -68,7 +68,7 @@ decreases-do_block-loop-first g l = length l.rest
 
 abbrev pub invariant-repeat-loop : goal.invariant-repeat-loop
 invariant-repeat-loop g l =
-    Stands l.context l.board.laid l.frames.items × (g.D.Dealer.dealing l.dealer ≡ g.D.Dealer.dealing l.fn.dealer) × Keeps l.fn.board l.board
+    IsContextOf l.context l.board.laid l.frames.items × (g.D.Dealer.dealing l.dealer ≡ g.D.Dealer.dealing l.fn.dealer) × Keeps l.fn.board l.board
     × (again (l.times - l.counter) (does l.context.about.now (g.D.Dealer.dealing l.fn.dealer) l.context.scope.now (effects_in (list_seen l.inside)))
     (point_of l.board.laid l.frames.items (g.D.Dealer.state l.dealer))
     ≡ again l.times (does l.context.about.now (g.D.Dealer.dealing l.fn.dealer) l.context.scope.now (effects_in (list_seen l.inside)))
@@ -77,7 +77,7 @@ invariant-repeat-loop g l =
 
 abbrev pub invariant-for_players-loop-player : goal.invariant-for_players-loop-player
 invariant-for_players-loop-player g l =
-    Stands l.context l.board.laid l.frames.items × (g.D.Dealer.dealing l.dealer ≡ g.D.Dealer.dealing l.fn.dealer) × Keeps l.fn.board l.board
+    IsContextOf l.context l.board.laid l.frames.items × (g.D.Dealer.dealing l.dealer ≡ g.D.Dealer.dealing l.fn.dealer) × Keeps l.fn.board l.board
     × (fold
     (λ mid member. does l.context.about.now (g.D.Dealer.dealing l.fn.dealer) (l.context.scope.now ++ member ∷ []) (effects_in (list_seen l.inside)) mid)
     (point_of l.board.laid l.frames.items (g.D.Dealer.state l.dealer))
@@ -90,7 +90,7 @@ invariant-for_players-loop-player g l =
 
 abbrev pub invariant-for_these-loop-card : goal.invariant-for_these-loop-card
 invariant-for_these-loop-card g l =
-    Stands l.context l.board.laid l.frames.items × (g.D.Dealer.dealing l.dealer ≡ g.D.Dealer.dealing l.fn.dealer) × Keeps l.fn.board l.board
+    IsContextOf l.context l.board.laid l.frames.items × (g.D.Dealer.dealing l.dealer ≡ g.D.Dealer.dealing l.fn.dealer) × Keeps l.fn.board l.board
     × (fold
     (λ mid member. does l.context.about.now (g.D.Dealer.dealing l.fn.dealer) (l.context.scope.now ++ member ∷ []) (effects_in (list_seen l.inside)) mid)
     (point_of l.board.laid l.frames.items (g.D.Dealer.state l.dealer)) (map (λ c. card_bound c) (values_seen (drop l.card-index l.cards)))

@@ -7,13 +7,13 @@ use Rattle.rc_play_model.specs.Effects.{does, again}
 use Rattle.rc_ast.specs.Effects.{effects_seen}
 use Rattle.rc_value.specs.Cards.{values_seen}
 use Rattle.rc_state.specs.Point.{point_of}
-use Rattle.rc_state.specs.Context.{Stands}
+use Rattle.rc_state.specs.Context.{IsContextOf}
 use Rattle.rc_effects.proofs.effects.+effects.Given as goal
 
 -- what is left to do, from here, leads to what all leads to
 abbrev pub invariant-do_all-loop-effect : goal.invariant-do_all-loop-effect
 invariant-do_all-loop-effect g l =
-    Stands l.context l.table l.frames.items × (g.D.Dealer.dealing l.dealer ≡ g.D.Dealer.dealing l.fn.dealer)
+    IsContextOf l.context l.table l.frames.items × (g.D.Dealer.dealing l.dealer ≡ g.D.Dealer.dealing l.fn.dealer)
     × (does l.context.about.now (g.D.Dealer.dealing l.fn.dealer) l.context.scope.now (effects_seen (drop l.effect-index l.effect-items))
     (point_of l.table l.frames.items (g.D.Dealer.state l.dealer))
     ≡ does l.context.about.now (g.D.Dealer.dealing l.fn.dealer) l.context.scope.now (effects_seen l.effect-items)
@@ -21,7 +21,7 @@ invariant-do_all-loop-effect g l =
 
 abbrev pub invariant-repeat-loop : goal.invariant-repeat-loop
 invariant-repeat-loop g l =
-    Stands l.context l.table l.frames.items × (g.D.Dealer.dealing l.dealer ≡ g.D.Dealer.dealing l.fn.dealer)
+    IsContextOf l.context l.table l.frames.items × (g.D.Dealer.dealing l.dealer ≡ g.D.Dealer.dealing l.fn.dealer)
     × (again (l.times - l.counter) (does l.context.about.now (g.D.Dealer.dealing l.fn.dealer) l.context.scope.now (effects_seen l.effects.items))
     (point_of l.table l.frames.items (g.D.Dealer.state l.dealer))
     ≡ again l.times (does l.context.about.now (g.D.Dealer.dealing l.fn.dealer) l.context.scope.now (effects_seen l.effects.items))
@@ -29,7 +29,7 @@ invariant-repeat-loop g l =
 
 abbrev pub invariant-for_players-loop-player : goal.invariant-for_players-loop-player
 invariant-for_players-loop-player g l =
-    Stands l.context l.table l.frames.items × (g.D.Dealer.dealing l.dealer ≡ g.D.Dealer.dealing l.fn.dealer)
+    IsContextOf l.context l.table l.frames.items × (g.D.Dealer.dealing l.dealer ≡ g.D.Dealer.dealing l.fn.dealer)
     × (fold
     (λ mid member. does l.context.about.now (g.D.Dealer.dealing l.fn.dealer) (l.context.scope.now ++ member ∷ []) (effects_seen l.effects.items) mid)
     (point_of l.table l.frames.items (g.D.Dealer.state l.dealer))
@@ -41,7 +41,7 @@ invariant-for_players-loop-player g l =
 
 abbrev pub invariant-for_these-loop-card : goal.invariant-for_these-loop-card
 invariant-for_these-loop-card g l =
-    Stands l.context l.table l.frames.items × (g.D.Dealer.dealing l.dealer ≡ g.D.Dealer.dealing l.fn.dealer)
+    IsContextOf l.context l.table l.frames.items × (g.D.Dealer.dealing l.dealer ≡ g.D.Dealer.dealing l.fn.dealer)
     × (fold
     (λ mid member. does l.context.about.now (g.D.Dealer.dealing l.fn.dealer) (l.context.scope.now ++ member ∷ []) (effects_seen l.effects.items) mid)
     (point_of l.table l.frames.items (g.D.Dealer.state l.dealer)) (map (λ c. card_bound c) (values_seen (drop l.card-index l.cards)))
