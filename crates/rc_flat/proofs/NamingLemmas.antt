@@ -7,7 +7,7 @@ use Rattle.rc_play_model.specs.ItemBounds.{bound_of}
 use Rattle.rc_play_model.specs.Menu.{Item as PureItem, alts_at, alt_in, bindings_of, menu_from}
 use Rattle.rc_rules.specs.Control.{frames_seen}
 use Rattle.rc_rules.specs.declared.menu.Item.{Item}
-use Rattle.rc_rules.specs.Machine.{StandsAtDecision, bounds_here, menu_here}
+use Rattle.rc_rules.specs.Machine.{StopsAtDecision, bounds_here, menu_here}
 use Rattle.rc_code.specs.Instruction.{Block, Instruction, offer}
 use Rattle.rc_stand.specs.State.{IsReady, config_at}
 use Rattle.rc_stand.specs.declared.state.State.{State}
@@ -18,7 +18,7 @@ alts_of (Some (offer site alts blocks inside)) = alts
 alts_of other = []
 
 pub bounds_kept : (about : About) (code : List Instruction) (state : State) → IsReady about code state →
-    (decision : StandsAtDecision about (config_at about code state)) → (site : ℕ) (alts : List Alt) (blocks : List Block) (inside : ℕ) →
+    (decision : StopsAtDecision about (config_at about code state)) → (site : ℕ) (alts : List Alt) (blocks : List Block) (inside : ℕ) →
     slice_get code state.place.next ≡ Some (offer site alts blocks inside) →
     (place : ℕ) → place < length (menu_here about (config_at about code state)) → (item : Item) → item ≡ slice_index_or state.menu.items place item →
     map (bound_of about.shape)

@@ -9,7 +9,7 @@ ghost use Rattle.rc_play_model.specs.Decision.{choose};
 ghost use Rattle.rc_rules.specs.Bounds.{bounds_seen};
 ghost use Rattle.rc_rules.specs.Control.{control_seen, stop_seen};
 ghost use Rattle.rc_rules.specs.Dealer.{ShuffledBy};
-ghost use Rattle.rc_rules.specs.Machine.{StandsAtDecision, StandsWhereItStops, bounds_here, menu_here};
+ghost use Rattle.rc_rules.specs.Machine.{StopsAtDecision, IsWhereItStops, bounds_here, menu_here};
 ghost use Rattle.rc_rules.specs.Menu.{menu_seen};
 ghost use Rattle.rc_stand.specs.Flat.{config_of, flat_from};
 ghost use Rattle.rc_stand.specs.Moments.{IsInMatch};
@@ -115,7 +115,7 @@ impl Machine for FlatMachine {
         ensures leads { IfOk result
             (λ stop. stop_of self.old.about (D.dealing dealer.old) (D.state dealer.old) self.old.config
             ≡ Some (record { stop = stop_seen stop; config = self.new.config; dealer = D.state dealer.new })) }
-        ensures stands { IfOk result (λ stop. StandsWhereItStops self.old.about (stop_seen stop) self.new.config) }
+        ensures stands { IfOk result (λ stop. IsWhereItStops self.old.about (stop_seen stop) self.new.config) }
         ensures fresh { OnOk result (self.old.spent ≡ false) }
         ensures spent { self.new.spent ≡ is_err result }
         ensures shuffled { OnErr result (ShuffledBy D.dealing D.state dealer.old dealer.new) }
@@ -154,7 +154,7 @@ impl Machine for FlatMachine {
 
     fn menu_size(&self) -> usize
         requires fresh { self.now.spent ≡ false }
-        requires decision { StandsAtDecision self.now.about self.now.config }
+        requires decision { StopsAtDecision self.now.about self.now.config }
         ensures is { result ≡ length (menu_here self.now.about self.now.config) }
         ensures few { result ≤ most_items }
     {
@@ -163,7 +163,7 @@ impl Machine for FlatMachine {
 
     fn bounds(&self, item: u16) -> Bounds
         requires fresh { self.now.spent ≡ false }
-        requires decision { StandsAtDecision self.now.about self.now.config }
+        requires decision { StopsAtDecision self.now.about self.now.config }
         requires offered { item < length (menu_here self.now.about self.now.config) }
         ensures { bounds_seen result ≡ bounds_here self.now.about item self.now.config }
     {
@@ -172,7 +172,7 @@ impl Machine for FlatMachine {
 
     #[tactic(auto, using(rc_doing::proofs::ShuffleLemmas::not_shuffled))]
     fn apply<D: Dealer>(&mut self, item: u16, dealer: &mut D) -> Result<(), Memory>
-        requires decision { self.old.spent ≡ false → StandsAtDecision self.old.about self.old.config }
+        requires decision { self.old.spent ≡ false → StopsAtDecision self.old.about self.old.config }
         requires offered { self.old.spent ≡ false → item < length (menu_here self.old.about self.old.config) }
         ensures leads { OnOk result
             (choose self.old.about (D.dealing dealer.old) (D.state dealer.old) item self.old.config

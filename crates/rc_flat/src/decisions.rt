@@ -2,7 +2,7 @@
 ghost use Rattle.std.specs.Prelude.{◌≡◌, ℕ, ◌<◌, false, length, map, slice_get, slice_index_or, Some, OnOk, IsOk};
 ghost use Rattle.rc_play_model.specs.Step.{goes};
 ghost use Rattle.rc_play_model.specs.Decision.{choose};
-ghost use Rattle.rc_rules.specs.Machine.{StandsAtDecision, menu_here};
+ghost use Rattle.rc_rules.specs.Machine.{StopsAtDecision, menu_here};
 ghost use Rattle.rc_code.specs.Instruction.{offer};
 ghost use Rattle.rc_code.specs.Meaning.{block_in};
 ghost use Rattle.rc_code.specs.Seen.{block_seen, list_seen};
@@ -30,7 +30,7 @@ pub fn apply<D: Dealer>(
 ) -> Result<(), Memory>
     requires implements { Implements about.now.sheet (list_seen code.now) }
     requires ready { IsReady about.now (list_seen code.now) state.old }
-    requires decision { StandsAtDecision about.now (config_at about.now (list_seen code.now) state.old) }
+    requires decision { StopsAtDecision about.now (config_at about.now (list_seen code.now) state.old) }
     requires offered { item < length (menu_here about.now (config_at about.now (list_seen code.now) state.old)) }
     ensures leads { OnOk result (choose about.now (D.dealing dealer.old) (D.state dealer.old) item
         (config_at about.now (list_seen code.now) state.old)
@@ -70,7 +70,7 @@ fn take_item<D: Dealer>(
     requires ready { IsReady about.now (list_seen code.now) state.old }
     requires here { (site : ℕ) × (slice_get (list_seen code.now) state.old.place.next
         ≡ Some (offer site alts.now (map block_seen blocks.now) inside)) }
-    requires decision { StandsAtDecision about.now (config_at about.now (list_seen code.now) state.old) }
+    requires decision { StopsAtDecision about.now (config_at about.now (list_seen code.now) state.old) }
     requires offered { item < length (menu_here about.now (config_at about.now (list_seen code.now) state.old)) }
     ensures leads { OnOk result (choose about.now (D.dealing dealer.old) (D.state dealer.old) item
         (config_at about.now (list_seen code.now) state.old)

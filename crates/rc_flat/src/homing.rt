@@ -5,7 +5,7 @@ ghost use Rattle.rc_play_model.specs.Stop.{stop_of};
 ghost use Rattle.rc_play_model.specs.Decision.{at_site, choose};
 ghost use Rattle.rc_rules.specs.Control.{control_seen, stop_seen};
 ghost use Rattle.rc_rules.specs.Dealer.{ShuffledBy};
-ghost use Rattle.rc_rules.specs.Machine.{CanDecide, StandsAtDecision, StandsWhereItStops, menu_here};
+ghost use Rattle.rc_rules.specs.Machine.{CanDecide, StopsAtDecision, IsWhereItStops, menu_here};
 ghost use Rattle.rc_code.specs.Seen.{code_seen};
 ghost use Rattle.rc_code.specs.Stands.{StandsFor};
 
@@ -116,7 +116,7 @@ impl Machine for HomeMachine {
         ensures leads { IfOk result
             (λ stop. stop_of self.old.about (D.dealing dealer.old) (D.state dealer.old) self.old.config
             ≡ Some (record { stop = stop_seen stop; config = self.new.config; dealer = D.state dealer.new })) }
-        ensures stands { IfOk result (λ stop. StandsWhereItStops self.old.about (stop_seen stop) self.new.config) }
+        ensures stands { IfOk result (λ stop. IsWhereItStops self.old.about (stop_seen stop) self.new.config) }
         ensures fresh { OnOk result (self.old.spent ≡ false) }
         ensures spent { self.new.spent ≡ is_err result }
         ensures shuffled { OnErr result (ShuffledBy D.dealing D.state dealer.old dealer.new) }
@@ -142,7 +142,7 @@ impl Machine for HomeMachine {
     }
 
     fn apply<D: Dealer>(&mut self, item: u16, dealer: &mut D) -> Result<(), Memory>
-        requires decision { self.old.spent ≡ false → StandsAtDecision self.old.about self.old.config }
+        requires decision { self.old.spent ≡ false → StopsAtDecision self.old.about self.old.config }
         requires offered { self.old.spent ≡ false → item < length (menu_here self.old.about self.old.config) }
         ensures leads { OnOk result
             (choose self.old.about (D.dealing dealer.old) (D.state dealer.old) item self.old.config

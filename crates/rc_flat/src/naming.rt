@@ -7,7 +7,7 @@ ghost use Rattle.rc_code.specs.Seen.{list_seen};
 ghost use Rattle.rc_code.specs.Implements.{Implements};
 ghost use Rattle.rc_rules.specs.Bounds.{bounds_seen};
 ghost use Rattle.rc_rules.specs.Control.{frames_seen};
-ghost use Rattle.rc_rules.specs.Machine.{StandsAtDecision, bounds_here, menu_here};
+ghost use Rattle.rc_rules.specs.Machine.{StopsAtDecision, bounds_here, menu_here};
 ghost use Rattle.rc_stand.specs.State.{IsReady, config_at};
 ghost use Rattle.rc_state.specs.Bindings.{AreAltsOutside};
 ghost use Rattle.rc_value.specs.Current.{IsCurrent};
@@ -25,7 +25,7 @@ use rc_value::Current;
 pub(crate) fn bounds_of(state: &State, about: &About, code: &[Instruction], item: u16) -> Bounds
     requires implements { Implements about.now.sheet (list_seen code.now) }
     requires ready { IsReady about.now (list_seen code.now) state.now }
-    requires decision { StandsAtDecision about.now (config_at about.now (list_seen code.now) state.now) }
+    requires decision { StopsAtDecision about.now (config_at about.now (list_seen code.now) state.now) }
     requires offered { item < length (menu_here about.now (config_at about.now (list_seen code.now) state.now)) }
     ensures { bounds_seen result ≡ bounds_here about.now item (config_at about.now (list_seen code.now) state.now) }
 {

@@ -5,7 +5,7 @@ ghost use Rattle.rc_play_model.specs.Step.{start};
 ghost use Rattle.rc_code.specs.Seen.{code_seen};
 ghost use Rattle.rc_code.specs.Stands.{StandsFor};
 ghost use Rattle.rc_rules.specs.Control.{stop_seen};
-ghost use Rattle.rc_rules.specs.Machine.{StandsAtDecision, StandsWhereItStops, menu_here};
+ghost use Rattle.rc_rules.specs.Machine.{StopsAtDecision, IsWhereItStops, menu_here};
 ghost use Rattle.rc_games.specs.Alike.{AreAlike};
 
 use crate::game::Game;
@@ -68,8 +68,8 @@ pub fn expect_same_stop<T: Machine, F: Machine>(
 pub fn items_of_both<T: Machine, F: Machine>(tree: &T, other: &F) -> Result<usize, Stray>
     requires tree { T.spent tree.now ≡ false }
     requires other { F.spent other.now ≡ false }
-    requires tree_decides { StandsAtDecision (T.about tree.now) (T.config tree.now) }
-    requires other_decides { StandsAtDecision (F.about other.now) (F.config other.now) }
+    requires tree_decides { StopsAtDecision (T.about tree.now) (T.config tree.now) }
+    requires other_decides { StopsAtDecision (F.about other.now) (F.config other.now) }
     ensures tree { IfOk result (λ n. n ≡ length (menu_here (T.about tree.now) (T.config tree.now))) }
     ensures other { IfOk result (λ n. n ≡ length (menu_here (F.about other.now) (F.config other.now))) }
     ensures few { IfOk result (λ n. n ≤ most_items) }
@@ -134,7 +134,7 @@ fn stop_both<T: Machine, F: Machine>(
         (F.config other.old) dealers.old.tree dealers.old.other }
     ensures alike { OnOk result (AreAlike (T.about tree.new) (F.about other.new) (T.config tree.new)
         (F.config other.new) dealers.new.tree dealers.new.other) }
-    ensures stands { IfOk result (λ stop. StandsWhereItStops (T.about tree.new) (stop_seen stop) (T.config tree.new)) }
+    ensures stands { IfOk result (λ stop. IsWhereItStops (T.about tree.new) (stop_seen stop) (T.config tree.new)) }
     ensures fresh { OnOk result (T.spent tree.new ≡ false) }
     ensures other_fresh { OnOk result (F.spent other.new ≡ false) }
 {
@@ -174,7 +174,7 @@ fn take_on_both<T: Machine, F: Machine>(
 ) -> Result<(), Stray>
     requires tree { T.spent tree.old ≡ false }
     requires other { F.spent other.old ≡ false }
-    requires decides { StandsAtDecision (T.about tree.old) (T.config tree.old) }
+    requires decides { StopsAtDecision (T.about tree.old) (T.config tree.old) }
     requires alike { AreAlike (T.about tree.old) (F.about other.old) (T.config tree.old)
         (F.config other.old) dealers.old.tree dealers.old.other }
     ensures { OnOk result (AreAlike (T.about tree.new) (F.about other.new) (T.config tree.new)

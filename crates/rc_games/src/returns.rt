@@ -5,7 +5,7 @@ ghost use Rattle.rc_code.specs.Stands.{StandsFor};
 ghost use Rattle.rc_flat.specs.Machine.{KeepsTables};
 ghost use Rattle.rc_plain.specs.Plain.{config_of};
 ghost use Rattle.rc_redraw.specs.Need.{need_seen, IsNeed};
-ghost use Rattle.rc_rules.specs.Machine.{CanDecide, StandsAtDecision, menu_here};
+ghost use Rattle.rc_rules.specs.Machine.{CanDecide, StopsAtDecision, menu_here};
 
 use crate::alike::{Dealers, expect_same_scores, expect_same_stop, items_of_both};
 use crate::observed::Observer;
@@ -148,7 +148,7 @@ fn playouts_from(
 
 /// What the tree machine offers where it stands.
 fn first_menu(tree: &mut PlainMachine) -> Result<Menu, Stray>
-    ensures decision { IfOk result (λ _. StandsAtDecision tree.new.about (config_of tree.new)) }
+    ensures decision { IfOk result (λ _. StopsAtDecision tree.new.about (config_of tree.new)) }
 {
     match tree.advance(&mut MatchDealer::new(0))? {
         Stop::Decide { .. } => Ok(tree.menu()),
@@ -165,7 +165,7 @@ fn comes_home(
     tree: &mut PlainMachine,
     home: &mut HomeMachine,
 ) -> Result<u32, Stray>
-    requires decision { StandsAtDecision tree.old.about (config_of tree.old) }
+    requires decision { StopsAtDecision tree.old.about (config_of tree.old) }
     ensures about { home.new.about ≡ home.old.about }
     ensures home { home.new.home ≡ home.old.home }
 {
@@ -185,7 +185,7 @@ fn begin_at_home(
     home: &mut HomeMachine,
     dealers: &mut Dealers,
 ) -> Result<(), Stray>
-    requires decision { StandsAtDecision tree.old.about (config_of tree.old) }
+    requires decision { StopsAtDecision tree.old.about (config_of tree.old) }
     ensures about { home.new.about ≡ home.old.about }
     ensures home { home.new.home ≡ home.old.home }
 {
@@ -204,8 +204,8 @@ fn take_at_home(
     dealers: &mut Dealers,
 ) -> Result<(), Stray>
     requires fresh { home.old.spent ≡ false }
-    requires decision { StandsAtDecision tree.old.about (config_of tree.old) }
-    requires other { StandsAtDecision home.old.about home.old.config }
+    requires decision { StopsAtDecision tree.old.about (config_of tree.old) }
+    requires other { StopsAtDecision home.old.about home.old.config }
     ensures about { home.new.about ≡ home.old.about }
     ensures home { home.new.home ≡ home.old.home }
 {
@@ -293,7 +293,7 @@ fn stand_at_decision(
 ) -> Result<(), Stray>
     ensures keeps { KeepsTables flat.old flat.new }
     ensures fresh { OnOk result (flat.new.spent ≡ false) }
-    ensures decision { OnOk result (StandsAtDecision flat.new.about flat.new.config) }
+    ensures decision { OnOk result (StopsAtDecision flat.new.about flat.new.config) }
     ensures offered { OnOk result (item < length (menu_here flat.new.about flat.new.config)) }
 {
     let Stop::Decide { .. } = flat.advance(dealer)? else {
@@ -314,7 +314,7 @@ fn play_item(
     flat: &mut FlatMachine,
     dealer: &mut MatchDealer,
 ) -> Result<(), Stray>
-    requires decision { StandsAtDecision flat.old.about flat.old.config }
+    requires decision { StopsAtDecision flat.old.about flat.old.config }
     requires offered { item < length (menu_here flat.old.about flat.old.config) }
     ensures { KeepsTables flat.old flat.new }
 {
@@ -350,7 +350,7 @@ fn take_next(
     dealer: &mut MatchDealer,
 ) -> Result<(), Memory>
     requires fresh { flat.old.spent ≡ false }
-    requires decision { StandsAtDecision flat.old.about flat.old.config }
+    requires decision { StopsAtDecision flat.old.about flat.old.config }
     ensures { KeepsTables flat.old flat.new }
 {
     let size = flat.menu_size();

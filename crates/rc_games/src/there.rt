@@ -1,7 +1,7 @@
 //! The decision from which playouts are made.
 ghost use Rattle.std.specs.Prelude.{◌≡◌, true, false, IfOk};
 ghost use Rattle.rc_rules.specs.Control.{control_seen};
-ghost use Rattle.rc_rules.specs.Machine.{CanDecide, StandsAtDecision};
+ghost use Rattle.rc_rules.specs.Machine.{CanDecide, StopsAtDecision};
 ghost use Rattle.rc_code.specs.Seen.{code_seen};
 ghost use Rattle.rc_code.specs.Stands.{StandsFor};
 ghost use Rattle.rc_redraw.specs.Need.{need_seen, IsNeed};
@@ -110,7 +110,7 @@ impl There<'_> {
     /// And its menu.
     pub fn expect_offered<M: Machine>(&self, machine: &M) -> Result<(), Stray>
         requires fresh { M.spent machine.now ≡ false }
-        requires decision { StandsAtDecision (M.about machine.now) (M.config machine.now) }
+        requires decision { StopsAtDecision (M.about machine.now) (M.config machine.now) }
     {
         self.expect_at(machine)?;
         if !are_same_menus(&machine.menu(), &self.menu) {

@@ -19,7 +19,7 @@ use Rattle.rc_rules.specs.declared.bound.Bound.{Bound as Bound'}
 use Rattle.rc_rules.specs.declared.bound.Bound.TheVariants.{Player, Card, Group}
 use Rattle.rc_rules.specs.contracts.bound.BoundPartialEq.TheImpl.{eq-value}
 use Rattle.rc_rules.specs.Bounds.{bound_seen}
-use Rattle.rc_rules.specs.Machine.{StandsWhereItStops, bounds_here}
+use Rattle.rc_rules.specs.Machine.{IsWhereItStops, bounds_here}
 use Rattle.rc_play_model.specs.ItemBounds.{Bound as PureBound, bounds_at}
 use Rattle.rc_text_model.specs.Naming.{marks_by, marks_there}
 use Rattle.rc_text_model.specs.Bounds.{is_bound, are_bounds}
@@ -85,7 +85,7 @@ or_second None b e = refl
 or_second (Some v) b e = absurd cc
 
 -- the row for what an item binds is that of a choose line, where the item may be taken
-told_here : (about : About) (p : Pick) (stop : Stop) (c : Config) → StandsWhereItStops about stop c → decision_row about p stop c ≡ None →
+told_here : (about : About) (p : Pick) (stop : Stop) (c : Config) → IsWhereItStops about stop c → decision_row about p stop c ≡ None →
     marks_by about p.item stop c ≡ bounds_here about p.item c
 told_here about p (decide seat site) c stands row = ap (λ s. bounds_at about (unwrap_or s 0) p.item c) (sym stands.decision.stands)
 told_here about p is_done c stands row = absurd cc
@@ -96,13 +96,13 @@ named_is : (about : About) (at : Stopped ℕ) (p : Pick) (marks : Option (List P
 named_is about at p None bounds e = refl
 named_is about at p (Some marks) bounds e = ap (λ b. unless (are_bounds marks b) by_name) e
 
-pub marks_row_is : (about : About) (at : Stopped ℕ) (p : Pick) (marks : Option (List PureBound)) → StandsWhereItStops about at.stop at.config →
+pub marks_row_is : (about : About) (at : Stopped ℕ) (p : Pick) (marks : Option (List PureBound)) → IsWhereItStops about at.stop at.config →
     stopped_row about (Some at) p ≡ None → chosen_row about (Some at) p marks ≡ marks_row marks (bounds_here about p.item at.config)
 marks_row_is about at p marks stands row =
     or_second (stopped_row about (Some at) p) (named_row about (Some at) p marks) row
     ∙ named_is about at p marks (bounds_here about p.item at.config) (told_here about p at.stop at.config stands row)
 
-pub marks_noted : (about : About) (at : Stopped ℕ) (p : Pick) → StandsWhereItStops about at.stop at.config → stopped_row about (Some at) p ≡ None →
+pub marks_noted : (about : About) (at : Stopped ℕ) (p : Pick) → IsWhereItStops about at.stop at.config → stopped_row about (Some at) p ≡ None →
     marks_there about (Some at) p ≡ bounds_here about p.item at.config
 marks_noted about at p stands row = told_here about p at.stop at.config stands row
 

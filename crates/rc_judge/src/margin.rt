@@ -3,7 +3,7 @@ ghost use Rattle.std.specs.Prelude.{◌≡◌, ◌<◌, ◌++◌, ◌∷◌, [],
 ghost use Rattle.rc_play_model.specs.ItemBounds.{Bound as PureBound};
 ghost use Rattle.rc_text_model.specs.HouseText.{first_marks, later_marks};
 ghost use Rattle.rc_rules.specs.Bounds.{bounds_seen, match_bounds};
-ghost use Rattle.rc_rules.specs.Machine.{StandsAtDecision, bounds_here, menu_here};
+ghost use Rattle.rc_rules.specs.Machine.{StopsAtDecision, bounds_here, menu_here};
 ghost use Rattle.rc_judge.specs.Seen.{row_seen, marks_row, marks_left, lists_seen};
 
 use crate::verdict::Why;
@@ -31,7 +31,7 @@ pub(crate) trait Margin {
     /// The row for what an item of the menu binds. The next choice is next in the margin then.
     fn row<M: Machine>(&mut self, machine: &M, item: u16) -> Result<Option<Why>, Memory>
         requires fresh { M.spent machine.now ≡ false }
-        requires decision { StandsAtDecision (M.about machine.now) (M.config machine.now) }
+        requires decision { StopsAtDecision (M.about machine.now) (M.config machine.now) }
         requires offered { item < length (menu_here (M.about machine.now) (M.config machine.now)) }
         ensures is { IfOk result (λ row. row_seen row
             ≡ marks_row (first_marks (told self.old)) (bounds_here (M.about machine.now) item (M.config machine.now))) }

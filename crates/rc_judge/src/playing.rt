@@ -6,10 +6,10 @@ ghost use Rattle.rc_text_model.specs.HouseText.{shuffles_told};
 ghost use Rattle.rc_play_model.specs.Keyed.{dealing_of};
 ghost use Rattle.rc_text_model.specs.Along as along;
 ghost use Rattle.rc_text_model.specs.Judged.{play_after};
-ghost use Rattle.rc_rules.specs.Control.{stop_seen, stands_at};
+ghost use Rattle.rc_rules.specs.Control.{stop_seen, stopped_of};
 ghost use Rattle.rc_rules.specs.Plan.{plan_seen};
 ghost use Rattle.rc_rules.specs.Record.{pick_seen, score_seen, record_seen};
-ghost use Rattle.rc_rules.specs.Machine.{StandsWhereItStops};
+ghost use Rattle.rc_rules.specs.Machine.{IsWhereItStops};
 ghost use Rattle.rc_judge.specs.Seen.{Judges, lines_in};
 
 use crate::margin::Margin;
@@ -90,18 +90,18 @@ fn picks_along<M: Machine, N: Margin>(
     margin: &mut N,
 ) -> Result<(u32, Stop), Halt>
     requires fresh { M.spent machine.old ≡ false }
-    requires stands { StandsWhereItStops (M.about machine.old) (stop_seen start) (M.config machine.old) }
+    requires stands { IsWhereItStops (M.about machine.old) (stop_seen start) (M.config machine.old) }
     requires room { from + length picks.now < 2 ^ 32 }
     ensures is { (plan : PurePlan) (m : ℕ) → dealing_of (deal_at plan m).deal ≡ dealing_of dealer.old.deal →
-        Judges (λ x. (x.0, Some (stands_at x.1 (M.config machine.new) dealer.new.count), N.told margin.new)) result
+        Judges (λ x. (x.0, Some (stopped_of x.1 (M.config machine.new) dealer.new.count), N.told margin.new)) result
         (along.picks_along (M.about machine.old) dealing_of plan m from
-        (Some (stands_at start (M.config machine.old) dealer.old.count)) (N.told margin.old)
+        (Some (stopped_of start (M.config machine.old) dealer.old.count)) (N.told margin.old)
         (map pick_seen picks.now)) }
     ensures noted { N.notes ≡ true → (plan : PurePlan) (m : ℕ)
         → dealing_of (deal_at plan m).deal ≡ dealing_of dealer.old.deal →
         OnOk result (N.here margin.new ≡ N.here margin.old
         ++ along.marks_from (M.about machine.old) dealing_of plan m
-        (Some (stands_at start (M.config machine.old) dealer.old.count)) (map pick_seen picks.now)) }
+        (Some (stopped_of start (M.config machine.old) dealer.old.count)) (map pick_seen picks.now)) }
     ensures before { N.before margin.new ≡ N.before margin.old }
     ensures far { IfOk result (λ x. x.0 ≡ from + length picks.now) }
     ensures fresh { OnOk result (M.spent machine.new ≡ false) }
@@ -132,7 +132,8 @@ fn end_along<M: Machine>(
     requires fresh { M.spent machine.now ≡ false }
     requires room { line + length (shuffles_told played.now.shuffles) + 1 + length played.now.scores.items < 2 ^ 32 }
     ensures is { Judges (λ n. n) result
-        (along.end_along about.now line (Some (stands_at stop (M.config machine.now) count)) (record_seen played.now)) }
+        (along.end_along about.now line (Some (stopped_of stop (M.config machine.now) count))
+        (record_seen played.now)) }
     ensures far { IfOk result (λ n. n
         ≡ line + length (shuffles_told played.now.shuffles) + 1 + length played.now.scores.items) }
     ensures few { OnOk result (length played.now.scores.items ≤ about.now.sheet.players) }
@@ -148,7 +149,7 @@ fn end_along<M: Machine>(
 // Judges the shuffles line, which is left out where its number is 0. Answers the line behind it.
 fn told_along(stop: Stop, count: u32, line: u32, told: u32) -> Result<u32, Halt>
     requires room { line + 1 < 2 ^ 32 }
-    ensures is { (c : Config) → Judges (λ n. n) result (along.told_along line (Some (stands_at stop c count)) told) }
+    ensures is { (c : Config) → Judges (λ n. n) result (along.told_along line (Some (stopped_of stop c count)) told) }
     ensures far { IfOk result (λ n. n ≡ line + length (shuffles_told told)) }
 {
     if told == 0 {
@@ -169,7 +170,7 @@ fn scores_along<M: Machine>(
     requires fresh { M.spent machine.now ≡ false }
     requires room { from + length told.now < 2 ^ 32 }
     ensures is { (stop : Stop) (count : ℕ) → Judges (λ n. n) result
-        (along.scores_along about.now from (Some (stands_at stop (M.config machine.now) count)) 0
+        (along.scores_along about.now from (Some (stopped_of stop (M.config machine.now) count)) 0
         (map score_seen told.now)) }
     ensures far { IfOk result (λ n. n ≡ from + length told.now) }
     ensures few { OnOk result (length told.now ≤ about.now.sheet.players) }

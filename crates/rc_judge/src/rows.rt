@@ -6,10 +6,10 @@ ghost use Rattle.rc_play_model.specs.Scores as play;
 ghost use Rattle.rc_play_model.specs.About.{About as PureAbout};
 ghost use Rattle.rc_text_model.specs.Rows as rows;
 ghost use Rattle.rc_text_model.specs.Why.{by_standing};
-ghost use Rattle.rc_rules.specs.Control.{stop_seen, stands_at};
+ghost use Rattle.rc_rules.specs.Control.{stop_seen, stopped_of};
 ghost use Rattle.rc_rules.specs.Plan.{plan_seen};
 ghost use Rattle.rc_rules.specs.Record.{pick_seen, ending_seen, score_seen, standing_seen};
-ghost use Rattle.rc_rules.specs.Machine.{StandsAtDecision, StandsWhereItStops, Decides, menu_here};
+ghost use Rattle.rc_rules.specs.Machine.{StopsAtDecision, IsWhereItStops, Decides, menu_here};
 ghost use Rattle.rc_judge.specs.Seen.{row_seen};
 
 use crate::verdict::Why;
@@ -35,10 +35,10 @@ pub(crate) fn opening_row(plan: &Plan, number: u32, played: &MatchRecord) -> Opt
 /// The row of a choose line but for what its item is told to bind. Where none applies the item may be taken.
 pub(crate) fn stopped_row<M: Machine>(machine: &M, stop: Stop, pick: &Pick) -> Option<Why>
     requires fresh { M.spent machine.now ≡ false }
-    requires stands { StandsWhereItStops (M.about machine.now) (stop_seen stop) (M.config machine.now) }
+    requires stands { IsWhereItStops (M.about machine.now) (stop_seen stop) (M.config machine.now) }
     ensures is { row_seen result ≡ rows.decision_row (M.about machine.now) (pick_seen pick.now) (stop_seen stop)
         (M.config machine.now) }
-    ensures decision { result ≡ None → StandsAtDecision (M.about machine.now) (M.config machine.now) }
+    ensures decision { result ≡ None → StopsAtDecision (M.about machine.now) (M.config machine.now) }
     ensures offered { result ≡ None → pick.now.item < length (menu_here (M.about machine.now) (M.config machine.now)) }
 {
     match stop {
@@ -70,7 +70,7 @@ fn decision_row<M: Machine>(machine: &M, seat: u8, site: u8, pick: &Pick) -> Opt
 
 /// The row of a shuffles line, where so many lists were shuffled.
 pub(crate) fn shuffled_row(stop: Stop, count: u32, told: u32) -> Option<Why>
-    ensures { (c : Config) → row_seen result ≡ rows.shuffled_row (Some (stands_at stop c count)) told }
+    ensures { (c : Config) → row_seen result ≡ rows.shuffled_row (Some (stopped_of stop c count)) told }
 {
     if !has_ended(stop) {
         Some(Why::End)
@@ -84,7 +84,7 @@ pub(crate) fn shuffled_row(stop: Stop, count: u32, told: u32) -> Option<Why>
 /// The row of an end line, where so many lists were shuffled and the turn count is this.
 pub(crate) fn ending_row(stop: Stop, count: u32, turn: u32, played: &MatchRecord) -> Option<Why>
     ensures { (c : Config) → c.control.turn ≡ turn →
-        row_seen result ≡ rows.ending_row (Some (stands_at stop c count)) played.now.shuffles
+        row_seen result ≡ rows.ending_row (Some (stopped_of stop c count)) played.now.shuffles
         (ending_seen played.now.stop) played.now.turn }
 {
     if !has_ended(stop) {
@@ -128,7 +128,7 @@ pub(crate) fn scored_row(
     ensures is { (about : PureAbout) (c : Config) (stop : Stop) (count : ℕ)
         → scores.now.items ≡ play.scores_of about c.table c.control
         → points.now.items ≡ map (play.rank_points about.sheet scores.now.items) (below about.sheet.players)
-        → row_seen result ≡ rows.scored_row about (Some (stands_at stop c count)) index (score_seen told.now) }
+        → row_seen result ≡ rows.scored_row about (Some (stopped_of stop c count)) index (score_seen told.now) }
     ensures there { result ≡ None → index < length scores.now.items }
 {
     if is_score(scores, points, index, told) {

@@ -6,7 +6,7 @@ ghost use Rattle.rc_redraw.specs.Choosing.{AsksAll, AsksSome, asked_for};
 ghost use Rattle.rc_redraw.specs.Need.{IsNeed};
 ghost use Rattle.rc_rules.specs.Bounds.{match_bounds};
 ghost use Rattle.rc_rules.specs.Control.{stop_seen};
-ghost use Rattle.rc_rules.specs.Machine.{StandsAtDecision, StandsWhereItStops, menu_here};
+ghost use Rattle.rc_rules.specs.Machine.{StopsAtDecision, IsWhereItStops, menu_here};
 ghost use Rattle.rc_rules.specs.Record.{record_seen};
 ghost use Rattle.rc_match.specs.Chosen.{Chosen, IsChoice, IsOffhand, asked_at};
 ghost use Rattle.rc_match.specs.Job.{of_job, IsInPlan, HasStrategies};
@@ -41,7 +41,7 @@ pub(crate) fn picked_at<M: Machine, C: Chooser, L: Ledger>(
     requires seats { HasStrategies job.now }
     requires about { M.about machine.now ≡ job.now.about.value }
     requires fresh { M.spent machine.now ≡ false }
-    requires stands { StandsWhereItStops job.now.about.value (stop_seen stop) (M.config machine.now) }
+    requires stands { IsWhereItStops job.now.about.value (stop_seen stop) (M.config machine.now) }
     requires plays { mover job.now.about.value.sheet (M.config machine.now).control.frames
         < job.now.about.value.sheet.players }
     requires asks { IsChoice (C.serves chooser.old) (of_job job.now phase_at (stop_seen stop) (M.config machine.now)) }
@@ -86,7 +86,7 @@ fn note<M: Machine>(
     bounds: &mut Vec<Bounds>,
 ) -> Result<(), Memory>
     requires fresh { M.spent machine.now ≡ false }
-    requires decides { StandsAtDecision (M.about machine.now) (M.config machine.now) }
+    requires decides { StopsAtDecision (M.about machine.now) (M.config machine.now) }
     requires offered { item < length (menu_here (M.about machine.now) (M.config machine.now)) }
     ensures { OnOk result (match_bounds bounds.new
         ≡ match_bounds bounds.old ++ noted_here noted (M.about machine.now) (M.config machine.now) (Some item)) }
@@ -111,7 +111,7 @@ fn item_of<M: Machine, C: Chooser, L: Ledger>(
     requires seats { HasStrategies job.now }
     requires about { M.about machine.now ≡ job.now.about.value }
     requires fresh { M.spent machine.now ≡ false }
-    requires decides { StandsAtDecision job.now.about.value (M.config machine.now) }
+    requires decides { StopsAtDecision job.now.about.value (M.config machine.now) }
     requires plays { seat < job.now.about.value.sheet.players }
     requires served { C.serves chooser.old job.now.about.value }
     requires need { IsNeed (of_job job.now need_at seat (M.config machine.now)) }
@@ -138,7 +138,7 @@ fn offhand_at<M: Machine>(job: &Job, seat: u8, machine: &M) -> Option<u16>
     requires seats { HasStrategies job.now }
     requires about { M.about machine.now ≡ job.now.about.value }
     requires fresh { M.spent machine.now ≡ false }
-    requires decides { StandsAtDecision job.now.about.value (M.config machine.now) }
+    requires decides { StopsAtDecision job.now.about.value (M.config machine.now) }
     requires plays { seat < job.now.about.value.sheet.players }
     requires need { IsNeed (of_job job.now need_at seat (M.config machine.now)) }
     ensures { IfSome result (IsOffhand (of_job job.now need_at seat (M.config machine.now))) }

@@ -7,7 +7,7 @@ ghost use Rattle.rc_play_model.specs.Decision.{choose};
 ghost use Rattle.rc_play_model.specs.Keyed.{dealing_of};
 ghost use Rattle.rc_rules.specs.Control.{stop_seen};
 ghost use Rattle.rc_rules.specs.Record.{pick_seen, ending_seen, record_seen};
-ghost use Rattle.rc_rules.specs.Machine.{StandsAtDecision, StandsWhereItStops, menu_here};
+ghost use Rattle.rc_rules.specs.Machine.{StopsAtDecision, IsWhereItStops, menu_here};
 ghost use Rattle.rc_redraw.specs.Need.{need_seen};
 ghost use Rattle.rc_match.specs.Job.{of_job, DealsFor, IsInPlan, HasStrategies};
 ghost use Rattle.rc_match.specs.Lane.{ready, over, lane_of, phase_seen, pick_here, noted, next_stop, need_at};
@@ -72,7 +72,7 @@ pub(crate) fn go_to_stop<M: Machine>(
         (stopped_at (stop_seen stop) (M.config machine.new) dealer.new))) }
     ensures way { IfOk result (λ stop. of_job job.now IsOnWay (of_job job.now lane_at (record_seen notes.new)
         (stopped_at (stop_seen stop) (M.config machine.new) dealer.new))) }
-    ensures stands { IfOk result (λ stop. StandsWhereItStops job.now.about.value (stop_seen stop)
+    ensures stands { IfOk result (λ stop. IsWhereItStops job.now.about.value (stop_seen stop)
         (M.config machine.new)) }
     ensures plays { OnOk result (mover job.now.about.value.sheet (M.config machine.new).control.frames
         < job.now.about.value.sheet.players) }
@@ -98,7 +98,7 @@ fn take_any<M: Machine>(
 ) -> Result<(), Memory>
     requires about { M.about machine.old ≡ about.now }
     requires fresh { M.spent machine.old ≡ false }
-    requires decides { IfSome pick (λ item. StandsAtDecision about.now (M.config machine.old)) }
+    requires decides { IfSome pick (λ item. StopsAtDecision about.now (M.config machine.old)) }
     requires offered { IfSome pick (λ item. item < length (menu_here about.now (M.config machine.old))) }
     ensures leads { OnOk result
         (next_stop about.now (dealing_of dealer.old.deal) dealer.old.count (M.config machine.old) pick
@@ -126,7 +126,7 @@ fn take<M: Machine>(
 ) -> Result<(), Memory>
     requires about { M.about machine.old ≡ about.now }
     requires fresh { M.spent machine.old ≡ false }
-    requires decides { StandsAtDecision about.now (M.config machine.old) }
+    requires decides { StopsAtDecision about.now (M.config machine.old) }
     requires offered { item < length (menu_here about.now (M.config machine.old)) }
     ensures leads { OnOk result
         (choose about.now (dealing_of dealer.old.deal) dealer.old.count item (M.config machine.old)
@@ -147,7 +147,7 @@ fn take<M: Machine>(
 fn pick_of<M: Machine>(about: &About, machine: &M, item: u16) -> Pick
     requires about { M.about machine.now ≡ about.now }
     requires fresh { M.spent machine.now ≡ false }
-    requires decides { StandsAtDecision about.now (M.config machine.now) }
+    requires decides { StopsAtDecision about.now (M.config machine.now) }
     ensures { pick_seen result ≡ pick_here about.now (M.config machine.now) item }
 {
     // what an about keeps
@@ -174,7 +174,7 @@ fn arrive<M: Machine>(
     requires seats { HasStrategies job.now }
     requires about { M.about machine.now ≡ job.now.about.value }
     requires fresh { M.spent machine.now ≡ false }
-    requires stands { StandsWhereItStops job.now.about.value (stop_seen stop) (M.config machine.now) }
+    requires stands { IsWhereItStops job.now.about.value (stop_seen stop) (M.config machine.now) }
     requires plays { mover job.now.about.value.sheet (M.config machine.now).control.frames
         < job.now.about.value.sheet.players }
     ensures is { IfOk result
@@ -202,7 +202,7 @@ pub(crate) fn need_of<M: Machine>(
     requires seats { HasStrategies job.now }
     requires about { M.about machine.now ≡ job.now.about.value }
     requires fresh { M.spent machine.now ≡ false }
-    requires decides { StandsAtDecision job.now.about.value (M.config machine.now) }
+    requires decides { StopsAtDecision job.now.about.value (M.config machine.now) }
     requires plays { seat < job.now.about.value.sheet.players }
     ensures { IfOk result (λ need. need_seen need ≡ of_job job.now need_at seat (M.config machine.now)) }
 {

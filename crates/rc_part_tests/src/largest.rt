@@ -3,7 +3,7 @@
 ghost use Rattle.std.specs.Prelude.{◌≡◌, false, IfOk};
 ghost use Rattle.rc_play_model.specs.Shape.{shape_of as shape_for};
 ghost use Rattle.rc_play_model.specs.Step.{start};
-ghost use Rattle.rc_rules.specs.Machine.{CanDecide, StandsAtDecision};
+ghost use Rattle.rc_rules.specs.Machine.{CanDecide, StopsAtDecision};
 ghost use Rattle.rc_plain.specs.Plain.{config_of};
 ghost use Rattle.rc_code.specs.Seen.{code_seen};
 ghost use Rattle.rc_code.specs.Stands.{StandsFor};
@@ -135,7 +135,7 @@ pub fn flat_first(
     requires shape { basis.now.shape.value ≡ shape_for basis.now.checked.value }
     requires code { StandsFor basis.now.checked.value (code_seen code.now.value) }
     ensures fresh { IfOk result (λ m. m.spent ≡ false) }
-    ensures decision { IfOk result (λ m. StandsAtDecision m.about m.config) }
+    ensures decision { IfOk result (λ m. StopsAtDecision m.about m.config) }
 {
     let mut machine = FlatMachine::start(alloc, code, &basis.checked, &basis.shape, 100)?;
     match machine.advance(dealer) {

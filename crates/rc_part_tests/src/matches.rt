@@ -1,7 +1,7 @@
 //! Matches on the tree machine, what their tables hold, and what seats see of them.
 ghost use Rattle.std.specs.Prelude.{◌≡◌, IfOk};
 ghost use Rattle.rc_plain.specs.Plain.{config_of};
-ghost use Rattle.rc_rules.specs.Machine.{StandsAtDecision};
+ghost use Rattle.rc_rules.specs.Machine.{StopsAtDecision};
 ghost use Rattle.rc_view.specs.Key.{HasKey};
 ghost use Rattle.rc_view.specs.Seen.{view_seen};
 
@@ -23,7 +23,7 @@ pub fn start_of(alloc: Global, text: &[u8]) -> Result<PlainMachine, Fail> {
 
 /// The match at its next decision.
 pub fn go_on(machine: &mut PlainMachine, dealer: &mut MatchDealer) -> Result<(), Fail>
-    ensures decision { IfOk result (λ _. StandsAtDecision machine.new.about (config_of machine.new)) }
+    ensures decision { IfOk result (λ _. StopsAtDecision machine.new.about (config_of machine.new)) }
     ensures same { machine.new.about ≡ machine.old.about }
 {
     match machine.advance(dealer) {

@@ -1,7 +1,7 @@
 //! What a seat sees of a match, and the bytes by which a view is known.
 ghost use Rattle.std.specs.Prelude.{◌≡◌};
 ghost use Rattle.rc_plain.specs.Plain.{config_of};
-ghost use Rattle.rc_rules.specs.Machine.{StandsAtDecision};
+ghost use Rattle.rc_rules.specs.Machine.{StopsAtDecision};
 
 use crate::expect::expect_same;
 use crate::matches::{copied_key, go_on, seen_by, start_of};
@@ -25,7 +25,7 @@ struct Decision {
 
 /// The decision at which a match stands.
 fn decision_of(rt: &(impl AllocGlobal + Abort), machine: &PlainMachine) -> Result<Decision, Fail>
-    requires { StandsAtDecision machine.now.about (config_of machine.now) }
+    requires { StopsAtDecision machine.now.about (config_of machine.now) }
 {
     let view = seen_by(rt, machine, 0)?;
     let key = copied_key(rt.alloc(), &view)?;

@@ -7,7 +7,7 @@ use Rattle.rc_play_model.specs.About.{About, scene_at, menu_at}
 use Rattle.rc_play_model.specs.Menu.{menu_from}
 use Rattle.rc_rules.specs.Control.{control_seen, frames_seen}
 use Rattle.rc_rules.specs.declared.menu.Item.{Item}
-use Rattle.rc_rules.specs.Machine.{StandsAtDecision, menu_here}
+use Rattle.rc_rules.specs.Machine.{StopsAtDecision, menu_here}
 use Rattle.rc_rules.specs.Menu.{item_seen, menu_seen}
 use Rattle.rc_plain.specs.Paths.{item_at}
 use Rattle.rc_plain.specs.Plain.{Plain, chosen_item}
@@ -35,7 +35,7 @@ one_site m site other alts is offered = ap site_in (sym is ∙ offered.there)
 -- AT A DECISION
 
 -- the menu that is kept is the one of the decision
-pub kept_here : (about : About) (state : PlainState) → IsReady about state → StandsAtDecision about (config_at about state) →
+pub kept_here : (about : About) (state : PlainState) → IsReady about state → StopsAtDecision about (config_at about state) →
     menu_seen state.menu.items ≡ menu_here about (config_at about state)
 kept_here about state ready decision =
     let stands = decision.2.decision.stands in
@@ -43,12 +43,12 @@ kept_here about state ready decision =
     kept.menu ∙ ap (λ o. menu_at about (unwrap_or o 0) state.table.table (control_seen state.control)) (sym stands)
 
 -- and has as many items
-pub so_many : (about : About) (state : PlainState) → IsReady about state → StandsAtDecision about (config_at about state) →
+pub so_many : (about : About) (state : PlainState) → IsReady about state → StopsAtDecision about (config_at about state) →
     length state.menu.items ≡ length (menu_here about (config_at about state))
 so_many about state ready decision = sym (length-map state.menu.items item_seen) ∙ ap length (kept_here about state ready decision)
 
 -- the item at a place of it is the chosen one
-pub item_kept : (about : About) (state : PlainState) → IsReady about state → (decision : StandsAtDecision about (config_at about state)) →
+pub item_kept : (about : About) (state : PlainState) → IsReady about state → (decision : StopsAtDecision about (config_at about state)) →
     (alts : List Alt) → ((site : ℕ) (others : List Alt) → item_at about.sheet state.path ≡ Some (choice site others) → alts ≡ others) →
     (place : ℕ) → place < length (menu_here about (config_at about state)) → (item : Item) → item ≡ slice_index_or state.menu.items place item →
     chosen_item (plain_of about state) alts place ≡ item_seen item

@@ -14,7 +14,7 @@ use Rattle.rc_play_model.specs.Step.{Part, todo, round, turn, todos, Stop, decid
 use Rattle.rc_play_model.specs.Path.{Path}
 use Rattle.rc_play_model.specs.Decision.{left_at}
 use Rattle.rc_play_model.specs.Fits.{around, HasFrames, IsFrameOf, FitsSite, IsDecision, IsAtStop}
-use Rattle.rc_rules.specs.Machine.{StandsWhereItStops}
+use Rattle.rc_rules.specs.Machine.{IsWhereItStops}
 use Rattle.rc_play_model.proofs.PathLemmas.{left-item, left-round, turn_left, end_left}
 use Rattle.rc_play_model.proofs.FrameLemmas.{start_frames, numbers_same}
 use Rattle.rc_play_model.proofs.SiteLemmas.{alts_at_found}
@@ -128,7 +128,7 @@ at_decision m is formed seat site decision =
 
 -- where a machine stops at a decision, something is offered
 pub stands_there : (m : Plain) → IsPath m.about.sheet m.path → IsWellFormed m.about.sheet → (stop : Stop) → IsAtStop m.about stop (config_of m) →
-    StandsWhereItStops m.about stop (config_of m)
+    IsWhereItStops m.about stop (config_of m)
 stands_there m is formed (decide seat site) there =
     let at = at_decision m is formed seat site there in
     let scene = scene_at m.about m.table m.control.frames in

@@ -7,13 +7,13 @@ use Rattle.rc_play_model.specs.ItemBounds.{bound_of}
 use Rattle.rc_play_model.specs.Menu.{Item as PureItem, alts_at, alt_in, bindings_of, menu_from}
 use Rattle.rc_rules.specs.Control.{frames_seen}
 use Rattle.rc_rules.specs.declared.menu.Item.{Item}
-use Rattle.rc_rules.specs.Machine.{StandsAtDecision, bounds_here, menu_here}
+use Rattle.rc_rules.specs.Machine.{StopsAtDecision, bounds_here, menu_here}
 use Rattle.rc_plain.specs.Paths.{item_at}
 use Rattle.rc_plain.specs.State.{IsReady, config_at}
 use Rattle.rc_plain.specs.declared.state.PlainState.{PlainState}
 use Rattle.rc_plain.proofs.KeptLemmas.{item_kept}
 
-pub bounds_kept : (about : About) (state : PlainState) → IsReady about state → (decision : StandsAtDecision about (config_at about state)) →
+pub bounds_kept : (about : About) (state : PlainState) → IsReady about state → (decision : StopsAtDecision about (config_at about state)) →
     (alts : List Alt) → ((site : ℕ) (others : List Alt) → item_at about.sheet state.path ≡ Some (choice site others) → alts ≡ others) →
     (place : ℕ) → place < length (menu_here about (config_at about state)) → (item : Item) → item ≡ slice_index_or state.menu.items place item →
     map (bound_of about.shape)

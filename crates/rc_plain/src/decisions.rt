@@ -4,7 +4,7 @@ ghost use Rattle.rc_sheet_model.specs.Sheet.{choice};
 ghost use Rattle.rc_play_model.specs.Step.{goes};
 ghost use Rattle.rc_play_model.specs.Decision.{choose};
 ghost use Rattle.rc_ast.specs.Items.{alts_seen};
-ghost use Rattle.rc_rules.specs.Machine.{StandsAtDecision, menu_here};
+ghost use Rattle.rc_rules.specs.Machine.{StopsAtDecision, menu_here};
 ghost use Rattle.rc_rules.specs.Menu.{item_seen};
 ghost use Rattle.rc_plain.specs.Paths.{item_at};
 ghost use Rattle.rc_plain.specs.Plain.{IsInPlay, chosen_item};
@@ -21,7 +21,7 @@ impl PlainState {
     /// Takes an item out of the menu of the decision that is next, and does its effects.
     pub fn apply<D: Dealer>(&mut self, about: &About, item: u16, dealer: &mut D)
         requires ready { IsReady about.now self.old }
-        requires decision { StandsAtDecision about.now (config_at about.now self.old) }
+        requires decision { StopsAtDecision about.now (config_at about.now self.old) }
         requires offered { item < length (menu_here about.now (config_at about.now self.old)) }
         ensures leads { choose about.now (D.dealing dealer.old) (D.state dealer.old) item (config_at about.now self.old)
             ≡ goes (D.state dealer.new) (config_at about.now self.new) }

@@ -9,7 +9,7 @@ ghost use Rattle.rc_play_model.specs.Table.{opening};
 ghost use Rattle.rc_rules.specs.Bounds.{bounds_seen};
 ghost use Rattle.rc_rules.specs.Control.{control_seen, stop_seen};
 ghost use Rattle.rc_rules.specs.Dealer.{ShuffledBy};
-ghost use Rattle.rc_rules.specs.Machine.{StandsAtDecision, StandsWhereItStops, bounds_here, menu_here, CanDecide};
+ghost use Rattle.rc_rules.specs.Machine.{StopsAtDecision, IsWhereItStops, bounds_here, menu_here, CanDecide};
 ghost use Rattle.rc_plain.specs.Plain.{config_of};
 
 use crate::path::Path;
@@ -200,7 +200,7 @@ impl Machine for PlainMachine {
         ensures leads { IfOk result
             (λ stop. stop_of self.old.about (D.dealing dealer.old) (D.state dealer.old) (config_of self.old)
             ≡ Some (record { stop = stop_seen stop; config = config_of self.new; dealer = D.state dealer.new })) }
-        ensures stands { IfOk result (λ stop. StandsWhereItStops self.old.about (stop_seen stop) (config_of self.new)) }
+        ensures stands { IfOk result (λ stop. IsWhereItStops self.old.about (stop_seen stop) (config_of self.new)) }
         ensures fresh { OnOk result (false ≡ false) }
         ensures spent { false ≡ is_err result }
         ensures shuffled { OnErr result (ShuffledBy D.dealing D.state dealer.old dealer.new) }
@@ -216,7 +216,7 @@ impl Machine for PlainMachine {
     }
 
     fn menu_size(&self) -> usize
-        requires decision { StandsAtDecision self.now.about (config_of self.now) }
+        requires decision { StopsAtDecision self.now.about (config_of self.now) }
         ensures is { result ≡ length (menu_here self.now.about (config_of self.now)) }
         ensures few { result ≤ most_items }
     {
@@ -224,7 +224,7 @@ impl Machine for PlainMachine {
     }
 
     fn bounds(&self, item: u16) -> Bounds
-        requires decision { StandsAtDecision self.now.about (config_of self.now) }
+        requires decision { StopsAtDecision self.now.about (config_of self.now) }
         requires offered { item < length (menu_here self.now.about (config_of self.now)) }
         ensures { bounds_seen result ≡ bounds_here self.now.about item (config_of self.now) }
     {
@@ -232,7 +232,7 @@ impl Machine for PlainMachine {
     }
 
     fn apply<D: Dealer>(&mut self, item: u16, dealer: &mut D) -> Result<(), Memory>
-        requires decision { false ≡ false → StandsAtDecision self.old.about (config_of self.old) }
+        requires decision { false ≡ false → StopsAtDecision self.old.about (config_of self.old) }
         requires offered { false ≡ false → item < length (menu_here self.old.about (config_of self.old)) }
         ensures ok { IsOk result }
         ensures leads { OnOk result

@@ -6,7 +6,7 @@ ghost use Rattle.rc_play_model.specs.Menu.{alt_in, bindings_of};
 ghost use Rattle.rc_ast.specs.Items.{alts_seen};
 ghost use Rattle.rc_rules.specs.Bounds.{bounds_seen};
 ghost use Rattle.rc_rules.specs.Control.{frames_seen};
-ghost use Rattle.rc_rules.specs.Machine.{StandsAtDecision, bounds_here, menu_here};
+ghost use Rattle.rc_rules.specs.Machine.{StopsAtDecision, bounds_here, menu_here};
 ghost use Rattle.rc_state.specs.Bindings.{AreAltsOutside};
 ghost use Rattle.rc_plain.specs.State.{IsReady, config_at};
 
@@ -21,7 +21,7 @@ impl PlainState {
     /// What an item of the menu of the decision that is next binds.
     pub fn bounds(&self, about: &About, item: u16) -> Bounds
         requires ready { IsReady about.now self.now }
-        requires decision { StandsAtDecision about.now (config_at about.now self.now) }
+        requires decision { StopsAtDecision about.now (config_at about.now self.now) }
         requires offered { item < length (menu_here about.now (config_at about.now self.now)) }
         ensures { bounds_seen result ≡ bounds_here about.now item (config_at about.now self.now) }
     {

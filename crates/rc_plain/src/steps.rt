@@ -7,7 +7,7 @@ ghost use Rattle.rc_ast.specs.Expressions.{test_seen};
 ghost use Rattle.rc_ast.specs.Effects.{effects_seen};
 ghost use Rattle.rc_ast.specs.Items.{item_seen, alts_seen};
 ghost use Rattle.rc_rules.specs.Control.{stop_seen};
-ghost use Rattle.rc_rules.specs.Machine.{StandsWhereItStops};
+ghost use Rattle.rc_rules.specs.Machine.{IsWhereItStops};
 ghost use Rattle.rc_plain.specs.Paths.{item_at};
 ghost use Rattle.rc_plain.specs.State.{KeepsMenu, IsReady, config_at, next_seen, LeadsTo};
 
@@ -202,7 +202,7 @@ impl PlainState {
         requires ready { IsReady about.now self.old }
         ensures leads { stop_of about.now (D.dealing dealer.old) (D.state dealer.old) (config_at about.now self.old)
             ≡ Some (record { stop = stop_seen result; config = config_at about.now self.new; dealer = D.state dealer.new }) }
-        ensures stands { StandsWhereItStops about.now (stop_seen result) (config_at about.now self.new) }
+        ensures stands { IsWhereItStops about.now (stop_seen result) (config_at about.now self.new) }
         ensures ready { IsReady about.now self.new }
         ensures dealing { D.dealing dealer.new ≡ D.dealing dealer.old }
     {

@@ -3,18 +3,18 @@ use Rattle.std.proofs.Common.{◌≡◌, ℕ, length, sym, ap, subst, ◌∙◌}
 use Rattle.rc_play_model.specs.About.{About}
 use Rattle.rc_play_model.specs.Step.{Config}
 use Rattle.rc_play_model.specs.Tally.{Ask}
-use Rattle.rc_rules.specs.Machine.{StandsAtDecision, menu_here}
+use Rattle.rc_rules.specs.Machine.{StopsAtDecision, menu_here}
 use Rattle.rc_flat.specs.Home.{Homing}
-use Rattle.rc_rollout.specs.Back.{IsHomeAtRound, IsHomeOf, StandsAtRound}
+use Rattle.rc_rollout.specs.Back.{IsHomeAtRound, IsHomeOf, IsAtRound}
 
 module _ (about : About) (ask : Ask) (round : ℕ) where
   -- where it stands at a round's table, that is its home
-  pub home_there : (m : Homing) → StandsAtRound about ask round m → IsHomeAtRound about ask round m
+  pub home_there : (m : Homing) → IsAtRound about ask round m → IsHomeAtRound about ask round m
   home_there m stands =
       record {
         same = stands.same;
         there = stands.home ∙ stands.there;
-        decides = subst (StandsAtDecision about) (sym stands.home) stands.decides;
+        decides = subst (StopsAtDecision about) (sym stands.home) stands.decides;
         size = ap (λ (c : Config). length (menu_here about c)) stands.home ∙ stands.size;
       }
 
@@ -28,6 +28,6 @@ module _ (about : About) (ask : Ask) (round : ℕ) where
       record {
         same = same;
         there = home ∙ is.there;
-        decides = subst (StandsAtDecision about) (sym home) is.decides;
+        decides = subst (StopsAtDecision about) (sym home) is.decides;
         size = ap (λ (c : Config). length (menu_here about c)) home ∙ is.size;
       }

@@ -3,7 +3,7 @@ use Rattle.std.specs.Prelude.{◌≡◌, ℕ, false, length}
 use Rattle.rc_play_model.specs.About.{About}
 use Rattle.rc_play_model.specs.Strategy.{menu_size}
 use Rattle.rc_play_model.specs.Tally.{Ask, redrawn_at}
-use Rattle.rc_rules.specs.Machine.{StandsAtDecision, menu_here}
+use Rattle.rc_rules.specs.Machine.{StopsAtDecision, menu_here}
 use Rattle.rc_flat.specs.Home.{Homing}
 
 -- a machine whose home is the decision of an ask, with some table
@@ -12,11 +12,11 @@ pub record IsHomeOf (about : About) (ask : Ask) (m : Homing) : Type 0 where
   pub control : m.home.control ≡ ask.view.control
 
 -- a machine stands at home, which is the decision of an ask with the table that is redrawn for a round
-pub record StandsAtRound (about : About) (ask : Ask) (round : ℕ) (m : Homing) : Type 0 where
+pub record IsAtRound (about : About) (ask : Ask) (round : ℕ) (m : Homing) : Type 0 where
   pub same : m.about ≡ about
   pub there : m.config ≡ redrawn_at about ask round
   pub home : m.home ≡ m.config
-  pub decides : StandsAtDecision about m.config
+  pub decides : StopsAtDecision about m.config
   pub size : length (menu_here about m.config) ≡ menu_size about ask.view
   pub fresh : m.spent ≡ false
 
@@ -24,5 +24,5 @@ pub record StandsAtRound (about : About) (ask : Ask) (round : ℕ) (m : Homing) 
 pub record IsHomeAtRound (about : About) (ask : Ask) (round : ℕ) (m : Homing) : Type 0 where
   pub same : m.about ≡ about
   pub there : m.home ≡ redrawn_at about ask round
-  pub decides : StandsAtDecision about m.home
+  pub decides : StopsAtDecision about m.home
   pub size : length (menu_here about m.home) ≡ menu_size about ask.view

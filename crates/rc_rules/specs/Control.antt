@@ -24,5 +24,5 @@ stop_seen Done = is_done
 stop_seen Limit = is_limit
 
 -- a machine at a stop, behind so many shuffles
-abbrev pub stands_at : Stop → Config → ℕ → Stopped ℕ
-stands_at stop config shuffles = record { stop = stop_seen stop; config = config; dealer = shuffles }
+abbrev pub stopped_of : Stop → Config → ℕ → Stopped ℕ
+stopped_of stop config shuffles = record { stop = stop_seen stop; config = config; dealer = shuffles }

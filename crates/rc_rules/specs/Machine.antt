@@ -22,14 +22,14 @@ pub record Decides (about : About) (seat site : ℕ) (c : Config) : Type 0 where
   pub offered : 0 < length (menu_at about site c.table c.control)
 
 -- some seat decides at some site
-abbrev pub StandsAtDecision : About → Config → Type 0
-StandsAtDecision about c = (seat : ℕ) × (site : ℕ) × Decides about seat site c
+abbrev pub StopsAtDecision : About → Config → Type 0
+StopsAtDecision about c = (seat : ℕ) × (site : ℕ) × Decides about seat site c
 
 -- at a decision, where it stops at one
-abbrev pub StandsWhereItStops : About → Stop → Config → Type 0
-StandsWhereItStops about (decide seat site) c = Decides about seat site c
-StandsWhereItStops about is_done c = Unit {0}
-StandsWhereItStops about is_limit c = Unit {0}
+abbrev pub IsWhereItStops : About → Stop → Config → Type 0
+IsWhereItStops about (decide seat site) c = Decides about seat site c
+IsWhereItStops about is_done c = Unit {0}
+IsWhereItStops about is_limit c = Unit {0}
 
 -- a table and a control at a decision of some site: the control fits the site, something is offered there, and the turn limit
 -- isn't met

@@ -10,7 +10,7 @@ ghost use Rattle.rc_rules.specs.Control.{control_seen, stop_seen};
 ghost use Rattle.rc_rules.specs.Dealer.{ShuffledBy};
 ghost use Rattle.rc_rules.specs.Bounds.{bounds_seen};
 ghost use Rattle.rc_rules.specs.Menu.{menu_seen};
-ghost use Rattle.rc_rules.specs.Machine.{StandsAtDecision, StandsWhereItStops, bounds_here, menu_here};
+ghost use Rattle.rc_rules.specs.Machine.{StopsAtDecision, IsWhereItStops, bounds_here, menu_here};
 
 use crate::bound::Bounds;
 use crate::control::{Control, Stop};
@@ -35,7 +35,7 @@ pub trait Machine {
         ensures leads { IfOk result
             (λ stop. stop_of (about self.old) (D.dealing dealer.old) (D.state dealer.old) (config self.old)
             ≡ Some (record { stop = stop_seen stop; config = config self.new; dealer = D.state dealer.new })) }
-        ensures stands { IfOk result (λ stop. StandsWhereItStops (about self.old) (stop_seen stop) (config self.new)) }
+        ensures stands { IfOk result (λ stop. IsWhereItStops (about self.old) (stop_seen stop) (config self.new)) }
         ensures fresh { OnOk result (spent self.old ≡ false) }
         ensures spent { spent self.new ≡ is_err result }
         ensures shuffled { OnErr result (ShuffledBy D.dealing D.state dealer.old dealer.new) }
@@ -46,27 +46,27 @@ pub trait Machine {
     /// What the mover may pick.
     fn menu(&self) -> Menu
         requires fresh { spent self.now ≡ false }
-        requires decision { StandsAtDecision (about self.now) (config self.now) }
+        requires decision { StopsAtDecision (about self.now) (config self.now) }
         ensures { menu_seen result.items ≡ menu_here (about self.now) (config self.now) };
 
     /// How many items the mover may pick. `menu` copies them, and this copies nothing.
     fn menu_size(&self) -> usize
         requires fresh { spent self.now ≡ false }
-        requires decision { StandsAtDecision (about self.now) (config self.now) }
+        requires decision { StopsAtDecision (about self.now) (config self.now) }
         ensures is { result ≡ length (menu_here (about self.now) (config self.now)) }
         ensures few { result ≤ most_items };
 
     /// What an item of the menu binds.
     fn bounds(&self, item: u16) -> Bounds
         requires fresh { spent self.now ≡ false }
-        requires decision { StandsAtDecision (about self.now) (config self.now) }
+        requires decision { StopsAtDecision (about self.now) (config self.now) }
         requires offered { item < length (menu_here (about self.now) (config self.now)) }
         ensures { bounds_seen result ≡ bounds_here (about self.now) item (config self.now) };
 
     /// Takes an item of the menu and does its effects. The match then stands behind the decision, and `advance` goes
     /// on. Where it lacks memory the dealer is in a state that shuffles lead to. Of a spent machine nothing is asked.
     fn apply<D: Dealer>(&mut self, item: u16, dealer: &mut D) -> Result<(), Memory>
-        requires decision { spent self.old ≡ false → StandsAtDecision (about self.old) (config self.old) }
+        requires decision { spent self.old ≡ false → StopsAtDecision (about self.old) (config self.old) }
         requires offered { spent self.old ≡ false → item < length (menu_here (about self.old) (config self.old)) }
         ensures leads { OnOk result
             (choose (about self.old) (D.dealing dealer.old) (D.state dealer.old) item (config self.old)

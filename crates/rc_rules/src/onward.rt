@@ -3,8 +3,8 @@ ghost use Rattle.std.specs.Prelude.{◌≡◌, ◌<◌, false, length, Some, IfO
 ghost use Rattle.rc_play_model.specs.Play.{stop_behind};
 ghost use Rattle.rc_play_model.specs.Decision.{choose};
 ghost use Rattle.rc_play_model.specs.Keyed.{dealing_of};
-ghost use Rattle.rc_rules.specs.Control.{stop_seen, stands_at};
-ghost use Rattle.rc_rules.specs.Machine.{StandsAtDecision, StandsWhereItStops, menu_here};
+ghost use Rattle.rc_rules.specs.Control.{stop_seen, stopped_of};
+ghost use Rattle.rc_rules.specs.Machine.{StopsAtDecision, IsWhereItStops, menu_here};
 
 use crate::control::Stop;
 use crate::dealer::MatchDealer;
@@ -22,14 +22,14 @@ pub fn go_on<M: Machine>(
     item: u16,
 ) -> Result<Stop, Memory>
     requires fresh { M.spent machine.old ≡ false }
-    requires decision { StandsAtDecision (M.about machine.old) (M.config machine.old) }
+    requires decision { StopsAtDecision (M.about machine.old) (M.config machine.old) }
     requires offered { item < length (menu_here (M.about machine.old) (M.config machine.old)) }
     ensures leads { IfOk result (λ stop.
         stop_behind (M.about machine.old) (dealing_of dealer.old.deal)
         (choose (M.about machine.old) (dealing_of dealer.old.deal) dealer.old.count item (M.config machine.old))
-        ≡ Some (stands_at stop (M.config machine.new) dealer.new.count)) }
+        ≡ Some (stopped_of stop (M.config machine.new) dealer.new.count)) }
     ensures stands { IfOk result (λ stop.
-        StandsWhereItStops (M.about machine.new) (stop_seen stop) (M.config machine.new)) }
+        IsWhereItStops (M.about machine.new) (stop_seen stop) (M.config machine.new)) }
     ensures fresh { OnOk result (M.spent machine.new ≡ false) }
     ensures same { M.about machine.new ≡ M.about machine.old }
     ensures dealing { dealing_of dealer.new.deal ≡ dealing_of dealer.old.deal }

@@ -1,7 +1,7 @@
 //! Machines side by side: two machines of one about that stand at one configuration come to one configuration.
 ghost use Rattle.std.specs.Prelude.{◌≡◌, ◌<◌, false, length, IfOk, OnOk};
 ghost use Rattle.rc_rules.specs.Control.{stop_seen};
-ghost use Rattle.rc_rules.specs.Machine.{StandsAtDecision, StandsWhereItStops, menu_here};
+ghost use Rattle.rc_rules.specs.Machine.{StopsAtDecision, IsWhereItStops, menu_here};
 
 use crate::control::Stop;
 use crate::dealer::Dealer;
@@ -24,7 +24,7 @@ pub fn machines_stop_alike<M: Machine, N: Machine, D: Dealer, E: Dealer>(
     ensures stop { IfOk result (λ stops. stop_seen stops.0 ≡ stop_seen stops.1) }
     ensures config { OnOk result (M.config one.new ≡ N.config other.new) }
     ensures state { OnOk result (D.state dealer.new ≡ E.state other_dealer.new) }
-    ensures stands { IfOk result (λ stops. StandsWhereItStops (M.about one.new) (stop_seen stops.0)
+    ensures stands { IfOk result (λ stops. IsWhereItStops (M.about one.new) (stop_seen stops.0)
         (M.config one.new)) }
     ensures fresh { OnOk result (M.spent one.new ≡ false) }
     ensures other_fresh { OnOk result (N.spent other.new ≡ false) }
@@ -51,7 +51,7 @@ pub fn machines_go_alike<M: Machine, N: Machine, D: Dealer, E: Dealer>(
     requires config { M.config one.old ≡ N.config other.old }
     requires dealing { D.dealing dealer.old ≡ E.dealing other_dealer.old }
     requires state { D.state dealer.old ≡ E.state other_dealer.old }
-    requires decision { StandsAtDecision (M.about one.old) (M.config one.old) }
+    requires decision { StopsAtDecision (M.about one.old) (M.config one.old) }
     requires offered { item < length (menu_here (M.about one.old) (M.config one.old)) }
     ensures config { OnOk result (M.config one.new ≡ N.config other.new) }
     ensures state { OnOk result (D.state dealer.new ≡ E.state other_dealer.new) }

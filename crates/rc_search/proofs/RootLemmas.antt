@@ -13,7 +13,7 @@ use Rattle.rc_play_model.specs.Strategy.{menu_size}
 use Rattle.rc_play_model.specs.ChoiceLaws.{SizeRedrawn}
 use Rattle.rc_sheet_model.specs.Sight.{IsInSight}
 use Rattle.rc_table.specs.Laid.{Laid}
-use Rattle.rc_rules.specs.Machine.{StandsAtDecision, menu_here, CanDecide}
+use Rattle.rc_rules.specs.Machine.{StopsAtDecision, menu_here, CanDecide}
 use Rattle.rc_redraw.specs.Need.{IsAtDecision}
 use Rattle.rc_redraw.specs.Redraws.{Redrawn, redealt}
 use Rattle.rc_flat.specs.Machine.{Machine}
@@ -21,7 +21,7 @@ use Rattle.rc_flat.specs.Moments.{IsMoment, StaysInMatch}
 use Rattle.rc_flat.specs.declared.moments.Moment.{Moment}
 use Rattle.rc_rollout.proofs.StandingLemmas.{stands_there}
 use Rattle.rc_search.specs.declared.dealer.Way.{Way}
-use Rattle.rc_search.specs.Rounds.{dealt_on, redrawn_on, root_on, GoesFromRoot, IsDealing, StandsAtRoot}
+use Rattle.rc_search.specs.Rounds.{dealt_on, redrawn_on, root_on, GoesFromRoot, IsDealing, IsAtRoot}
 
 -- the table that is dealt for a round
 pub dealt_for : (about : About) (way : Way) (view : View) (key : List ℕ) (old new : Redrawn) → IsDealing about view old → new ≡ redealt key old →
@@ -55,10 +55,10 @@ module _ (about about' : About) (way : Way) (view : View) (laid : Laid) (control
 
   decides_there : SizeRedrawn → about.shape ≡ shape_of about.sheet → IsInSight about.sheet → IsAtDecision about view →
       about' ≡ about → laid ≡ dealt_on about way view → control ≡ view.control →
-      (c : Config) → c ≡ at_site about' laid.table control → StandsAtDecision about c
+      (c : Config) → c ≡ at_site about' laid.table control → StopsAtDecision about c
   decides_there law shape sight at same is there c where_it_is =
-      subst (StandsAtDecision about) (sym where_it_is)
-      (subst (λ a. StandsAtDecision a (at_site about' laid.table control)) same
+      subst (StopsAtDecision about) (sym where_it_is)
+      (subst (λ a. StopsAtDecision a (at_site about' laid.table control)) same
       (stands_there about' laid.table control (can_decide law shape sight at same is there)))
 
   size_there : SizeRedrawn → about.shape ≡ shape_of about.sheet → IsInSight about.sheet → IsAtDecision about view →
@@ -72,7 +72,7 @@ module _ (about about' : About) (way : Way) (view : View) (laid : Laid) (control
 
   pub stands_so : SizeRedrawn → about.shape ≡ shape_of about.sheet → IsInSight about.sheet → IsAtDecision about view →
       about' ≡ about → laid ≡ dealt_on about way view → control ≡ view.control →
-      (m : Machine) → m.about ≡ about' → m.config ≡ at_site about' laid.table control → m.spent ≡ false → IsSome m.home → StandsAtRoot about way view m
+      (m : Machine) → m.about ≡ about' → m.config ≡ at_site about' laid.table control → m.spent ≡ false → IsSome m.home → IsAtRoot about way view m
   stands_so law shape sight at same is there m about_is config fresh home =
       record {
         same = about_is ∙ same;
@@ -86,7 +86,7 @@ module _ (about about' : About) (way : Way) (view : View) (laid : Laid) (control
   pub stands_made : {E : Type 0} (made : Result Machine E) → SizeRedrawn → about.shape ≡ shape_of about.sheet → IsInSight about.sheet →
       IsAtDecision about view → about' ≡ about → laid ≡ dealt_on about way view → control ≡ view.control →
       IfOk made (λ m. m.about ≡ about') → IfOk made (λ m. m.config ≡ at_site about' laid.table control) → IfOk made (λ m. m.spent ≡ false) →
-      IfOk made (λ m. IsSome m.home) → IfOk made (StandsAtRoot about way view)
+      IfOk made (λ m. IsSome m.home) → IfOk made (IsAtRoot about way view)
   stands_made (Ok m) law shape sight at same is there about_is config fresh home =
       stands_so law shape sight at same is there m about_is config fresh home
   stands_made (Err e) law shape sight at same is there about_is config fresh home = tt
@@ -102,20 +102,20 @@ pub own_moment : (about : About) (m : Machine) (moment : Moment) → m.about ≡
 own_moment about m moment same is = subst (λ a. IsMoment a m.code m.config moment) (sym same) is
 
 -- a machine is back at the root of its round
-pub root_again : (about : About) (way : Way) (view : View) (m m' : Machine) → StandsAtRoot about way view m → StaysInMatch m m' → m'.config ≡ m.config → m'.spent ≡ false →
-    StandsAtRoot about way view m'
+pub root_again : (about : About) (way : Way) (view : View) (m m' : Machine) → IsAtRoot about way view m → StaysInMatch m m' → m'.config ≡ m.config → m'.spent ≡ false →
+    IsAtRoot about way view m'
 root_again about way view m m' stands stays config fresh =
     record {
       same = stays.about ∙ stands.same;
       there = config ∙ stands.there;
-      decides = subst (StandsAtDecision about) (sym config) stands.decides;
+      decides = subst (StopsAtDecision about) (sym config) stands.decides;
       size = ap (λ (c : Config). length (menu_here about c)) config ∙ stands.size;
       fresh = fresh;
       home = stays.home stands.home;
     }
 
 -- a machine goes on from the root of a round to that of the next one
-pub goes_on : (about : About) (way : Way) (view : View) (m m' : Machine) (root : Moment) → StandsAtRoot about way view m → IsMoment about m.code m.config root → StaysInMatch m m' →
+pub goes_on : (about : About) (way : Way) (view : View) (m m' : Machine) (root : Moment) → IsAtRoot about way view m → IsMoment about m.code m.config root → StaysInMatch m m' →
     GoesFromRoot about view m' root
 goes_on about way view m m' root stands is stays =
     record {

@@ -9,7 +9,7 @@ use Rattle.rc_play_model.specs.Redraw.{redraw}
 use Rattle.rc_play_model.specs.Step.{Config}
 use Rattle.rc_play_model.specs.Decision.{at_site}
 use Rattle.rc_play_model.specs.Strategy.{menu_size}
-use Rattle.rc_rules.specs.Machine.{StandsAtDecision, menu_here}
+use Rattle.rc_rules.specs.Machine.{StopsAtDecision, menu_here}
 use Rattle.rc_table.specs.Laid.{Laid}
 use Rattle.rc_redraw.specs.Redraws.{Redrawn}
 use Rattle.rc_flat.specs.Machine.{Machine}
@@ -51,10 +51,10 @@ module _ (about : About) (way : Way) (view : View) where
   tried_on depth = tried_with about way depth root_on 0 (menu_size about view)
 
   -- a machine that stands there
-  pub record StandsAtRoot (m : Machine) : Type 0 where
+  pub record IsAtRoot (m : Machine) : Type 0 where
     pub same : m.about ≡ about
     pub there : m.config ≡ root_on
-    pub decides : StandsAtDecision about m.config
+    pub decides : StopsAtDecision about m.config
     pub size : length (menu_here about m.config) ≡ menu_size about view
     pub fresh : m.spent ≡ false
     pub home : IsSome m.home

@@ -3,7 +3,7 @@ ghost use Rattle.std.specs.Prelude.{◌≡◌, ◌<◌, ◌≤◌, ◌+◌, nat_
 ghost use Rattle.std.specs.Prelude.{length, slice_index, IsSome, IfOk, OnOk};
 ghost use Rattle.rc_play_model.specs.About.{menu_at};
 ghost use Rattle.rc_rules.specs.Control.{stop_seen};
-ghost use Rattle.rc_rules.specs.Machine.{Decides, StandsAtDecision, StandsWhereItStops, menu_here};
+ghost use Rattle.rc_rules.specs.Machine.{Decides, StopsAtDecision, IsWhereItStops, menu_here};
 ghost use Rattle.rc_search_model.specs.Search.{best_for, all_points as points_there};
 ghost use Rattle.rc_flat.specs.Moments.{StaysInMatch};
 ghost use Rattle.rc_search.specs.Keeping.{AreOfShape};
@@ -39,7 +39,7 @@ pub(crate) fn behind<L: Ledger>(
     requires about { machine.old.about ≡ about.now }
     requires fresh { machine.old.spent ≡ false }
     requires home { IsSome machine.old.home }
-    requires decides { StandsAtDecision about.now machine.old.config }
+    requires decides { StopsAtDecision about.now machine.old.config }
     requires offered { item < length (menu_here about.now machine.old.config) }
     requires made { made < 281474976710656 }
     requires rooms { AreOfShape about.now.shape rooms.old }
@@ -81,7 +81,7 @@ fn worth<L: Ledger>(
     requires about { machine.old.about ≡ about.now }
     requires fresh { machine.old.spent ≡ false }
     requires home { IsSome machine.old.home }
-    requires stands { StandsWhereItStops about.now (stop_seen stop) machine.old.config }
+    requires stands { IsWhereItStops about.now (stop_seen stop) machine.old.config }
     requires made { made < 281474976710656 }
     requires rooms { AreOfShape about.now.shape rooms.old }
     requires few { applied.old ≤ 18446744073709551615 }

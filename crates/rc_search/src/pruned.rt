@@ -4,7 +4,7 @@ ghost use Rattle.rc_ast.specs.Sheet.{sheet_seen};
 ghost use Rattle.rc_play_model.specs.About.{menu_at};
 ghost use Rattle.rc_play_model.specs.Scores as play;
 ghost use Rattle.rc_rules.specs.Control.{stop_seen};
-ghost use Rattle.rc_rules.specs.Machine.{Decides, StandsAtDecision, StandsWhereItStops, menu_here};
+ghost use Rattle.rc_rules.specs.Machine.{Decides, StopsAtDecision, IsWhereItStops, menu_here};
 ghost use Rattle.rc_search_model.specs.Value.{most_points as most_for};
 ghost use Rattle.rc_flat.specs.Moments.{StaysInMatch};
 ghost use Rattle.rc_search.specs.Keeping.{AreOfShape};
@@ -46,7 +46,7 @@ pub(crate) fn behind_within<L: Ledger>(
     requires sides { AreSides about.now.sheet sides.now.items }
     requires fresh { machine.old.spent ≡ false }
     requires home { IsSome machine.old.home }
-    requires decides { StandsAtDecision about.now machine.old.config }
+    requires decides { StopsAtDecision about.now machine.old.config }
     requires offered { item < length (menu_here about.now machine.old.config) }
     requires player { way.now.seat < about.now.sheet.players }
     requires made { made < 281474976710656 }
@@ -96,7 +96,7 @@ fn worth_within<L: Ledger>(
     requires sides { AreSides about.now.sheet sides.now.items }
     requires fresh { machine.old.spent ≡ false }
     requires home { IsSome machine.old.home }
-    requires stands { StandsWhereItStops about.now (stop_seen stop) machine.old.config }
+    requires stands { IsWhereItStops about.now (stop_seen stop) machine.old.config }
     requires player { way.now.seat < about.now.sheet.players }
     requires made { made < 281474976710656 }
     requires rooms { AreOfShape about.now.shape rooms.old }

@@ -9,7 +9,7 @@ ghost use Rattle.rc_search_model.specs.Laws.{HasTwoTeams};
 ghost use Rattle.rc_search.specs.Looking.{Tells, tried_behind};
 ghost use Rattle.rc_flat.specs.Moments.{IsMoment, StaysInMatch};
 ghost use Rattle.rc_search.specs.Keeping.{AreOfShape};
-ghost use Rattle.rc_search.specs.Rounds.{gain_on, root_on, GoesFromRoot, IsDealing, StandsAtRoot};
+ghost use Rattle.rc_search.specs.Rounds.{gain_on, root_on, GoesFromRoot, IsDealing, IsAtRoot};
 ghost use Rattle.rc_search.specs.Sides.{AreSides};
 
 use crate::dealer::Way;
@@ -41,7 +41,7 @@ pub(crate) fn machine_at(
     requires at { IsAtDecision about.now (view_seen view.now) }
     requires code { StandsFor about.now.sheet (code_seen code.now.value) }
     requires deals { IsDealing about.now (view_seen view.now) redraws.old }
-    ensures stands { IfOk result (StandsAtRoot about.now way.now (view_seen view.now)) }
+    ensures stands { IfOk result (IsAtRoot about.now way.now (view_seen view.now)) }
     ensures deals { IsDealing about.now (view_seen view.now) redraws.new }
 {
     menu_sizes_are_functions_of_views();
@@ -68,7 +68,7 @@ pub(crate) fn deal_root(
     requires deals { IsDealing about.now (view_seen view.now) redraws.old }
     requires goes { GoesFromRoot about.now (view_seen view.now) machine.old root.old }
     ensures deals { IsDealing about.now (view_seen view.now) redraws.new }
-    ensures stands { StandsAtRoot about.now way.now (view_seen view.now) machine.new }
+    ensures stands { IsAtRoot about.now way.now (view_seen view.now) machine.new }
     ensures root { IsMoment about.now machine.new.code machine.new.config root.new }
 {
     menu_sizes_are_functions_of_views();
@@ -102,7 +102,7 @@ pub(crate) fn gain_of<L: Ledger>(
     requires sides { AreSides about.now.sheet sides.now.items }
     requires rooms { AreOfShape about.now.shape rooms.old }
     requires few { applied.old ≤ 18446744073709551615 }
-    requires stands { StandsAtRoot about.now way.now (view_seen view.now) machine.old }
+    requires stands { IsAtRoot about.now way.now (view_seen view.now) machine.old }
     requires offered { item < menu_size about.now (view_seen view.now) }
     ensures is { IfOk result (λ gain. gain ≡ gain_on about.now way.now (view_seen view.now) depth item) }
     ensures stays { OnOk result (StaysInMatch machine.old machine.new) }
@@ -139,7 +139,7 @@ fn plain_gain<L: Ledger>(
 ) -> Result<u8, Memory>
     requires rooms { AreOfShape about.now.shape rooms.old }
     requires few { applied.old ≤ 18446744073709551615 }
-    requires stands { StandsAtRoot about.now way.now (view_seen view.now) machine.old }
+    requires stands { IsAtRoot about.now way.now (view_seen view.now) machine.old }
     requires offered { item < menu_size about.now (view_seen view.now) }
     ensures is { IfOk result (λ gain. gain ≡ gain_on about.now way.now (view_seen view.now) depth item) }
     ensures stays { OnOk result (StaysInMatch machine.old machine.new) }
@@ -173,7 +173,7 @@ fn pruned_gain<L: Ledger>(
     requires sides { AreSides about.now.sheet sides.now.items }
     requires rooms { AreOfShape about.now.shape rooms.old }
     requires few { applied.old ≤ 18446744073709551615 }
-    requires stands { StandsAtRoot about.now way.now (view_seen view.now) machine.old }
+    requires stands { IsAtRoot about.now way.now (view_seen view.now) machine.old }
     requires offered { item < menu_size about.now (view_seen view.now) }
     ensures is { IfOk result (λ gain. gain ≡ gain_on about.now way.now (view_seen view.now) depth item) }
     ensures stays { OnOk result (StaysInMatch machine.old machine.new) }

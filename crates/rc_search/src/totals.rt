@@ -11,7 +11,7 @@ ghost use Rattle.rc_search.specs.Looking.{Tells};
 ghost use Rattle.rc_search.specs.Rival.{rival_seen, CanBeSearched, IsRival};
 ghost use Rattle.rc_flat.specs.Moments.{IsMoment, StaysInMatch};
 ghost use Rattle.rc_search.specs.Keeping.{AreOfShape};
-ghost use Rattle.rc_search.specs.Rounds.{in_rounds, tried_on, way_in, GoesFromRoot, IsDealing, StandsAtRoot};
+ghost use Rattle.rc_search.specs.Rounds.{in_rounds, tried_on, way_in, GoesFromRoot, IsDealing, IsAtRoot};
 ghost use Rattle.rc_search.specs.Sides.{AreSides};
 
 use crate::dealer::Way;
@@ -160,7 +160,7 @@ fn no_totals(
     way: &Way,
     machine: &FlatMachine,
 ) -> Result<Vec<u32>, Memory>
-    requires { StandsAtRoot about.now way.now (view_seen view.now) machine.now }
+    requires { IsAtRoot about.now way.now (view_seen view.now) machine.now }
     ensures { IfOk result (λ zeros. zeros.items ≡ replicate (menu_size about.now (view_seen view.now)) 0) }
 {
     // only contracts speak of these
@@ -262,7 +262,7 @@ fn add_gains<L: Ledger>(
     requires rival { IsRival rival.now }
     requires two { pruning ≡ true → HasTwoTeams about.now.sheet }
     requires way { way.now ≡ way_in (rival_seen rival.now) seed (view_seen view.now) round }
-    requires stands { StandsAtRoot about.now way.now (view_seen view.now) machine.old }
+    requires stands { IsAtRoot about.now way.now (view_seen view.now) machine.old }
     requires root { IsMoment about.now machine.old.code machine.old.config root.now }
     requires rooms { AreOfShape about.now.shape rooms.old }
     requires few { found.old.applied ≤ 18446744073709551615 }

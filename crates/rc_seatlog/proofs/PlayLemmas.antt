@@ -17,7 +17,7 @@ use Rattle.rc_log_model.specs.Plays.{IsPlayOf}
 use Rattle.rc_text_model.proofs.FieldLemmas.{some_is}
 use Rattle.rc_rules.specs.declared.record.Pick.{Pick as CodePick}
 use Rattle.rc_rules.specs.Record.{pick_seen}
-use Rattle.rc_rules.specs.Machine.{StandsAtDecision, StandsWhereItStops, menu_here}
+use Rattle.rc_rules.specs.Machine.{StopsAtDecision, IsWhereItStops, menu_here}
 
 abbrev Goes : About → Dealing ℕ → List CodePick → ℕ → Pick → Stopped ℕ → Stopped ℕ → Type 0
 Goes about dealing picks i p at end =
@@ -31,12 +31,12 @@ pub goes : (about : About) (dealing : Dealing ℕ) (picks : List CodePick) (i : 
 goes about dealing picks i d at end less leads = subst (λ ps. Leads about dealing ps at end) (at_drop_more (map pick_seen) picks i d less) leads
 
 -- it is made at a decision, out of the menu there
-pub stands_there : (about : About) (p : Pick) (stop : Stop) (c : Config) → StandsWhereItStops about stop c → IsMade about p stop c → StandsAtDecision about c
+pub stands_there : (about : About) (p : Pick) (stop : Stop) (c : Config) → IsWhereItStops about stop c → IsMade about p stop c → StopsAtDecision about c
 stands_there about p (decide seat site) c stands made = (seat, site, stands)
 stands_there about p is_done c stands made = absurd made
 stands_there about p is_limit c stands made = absurd made
 
-pub offered_there : (about : About) (p : Pick) (stop : Stop) (c : Config) → StandsWhereItStops about stop c → IsMade about p stop c → p.item < length (menu_here about c)
+pub offered_there : (about : About) (p : Pick) (stop : Stop) (c : Config) → IsWhereItStops about stop c → IsMade about p stop c → p.item < length (menu_here about c)
 offered_there about p (decide seat site) c stands made =
     let here : length (menu_here about c) ≡ length (menu_at about site c.table c.control) =
     ap (λ site. length (menu_at about (unwrap_or site 0) c.table c.control)) stands.decision.stands in

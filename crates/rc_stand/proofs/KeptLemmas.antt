@@ -9,7 +9,7 @@ use Rattle.rc_rules.specs.Control.{control_seen, frames_seen}
 use Rattle.rc_rules.specs.declared.menu.Item.{Item}
 use Rattle.rc_play_model.specs.Step.{Stop, decide, is_done, is_limit}
 use Rattle.rc_play_model.specs.Fits.{IsAtStop}
-use Rattle.rc_rules.specs.Machine.{StandsAtDecision, StandsWhereItStops, menu_here}
+use Rattle.rc_rules.specs.Machine.{StopsAtDecision, IsWhereItStops, menu_here}
 use Rattle.rc_rules.specs.Menu.{item_seen, menu_seen}
 use Rattle.rc_code.specs.Instruction.{Block, Instruction, offer}
 use Rattle.rc_stand.specs.Flat.{chosen_item}
@@ -21,7 +21,7 @@ alts_in (Some (offer site alts blocks inside)) = alts
 alts_in other = []
 
 module _ (about : About) (code : List Instruction) (state : State) (ready : IsReady about code state)
-    (decision : StandsAtDecision about (config_at about code state)) where
+    (decision : StopsAtDecision about (config_at about code state)) where
   -- the menu that is kept is the one of the decision
   pub kept_here : menu_seen state.menu.items ≡ menu_here about (config_at about code state)
   kept_here =
@@ -51,7 +51,7 @@ module _ (about : About) (code : List Instruction) (state : State) (ready : IsRe
 
 -- where a match stops at a decision, something is offered
 pub stands_there : (about : About) (code : List Instruction) (state : State) → IsReady about code state → (stop : Stop) →
-    IsAtStop about stop (config_at about code state) → StandsWhereItStops about stop (config_at about code state)
+    IsAtStop about stop (config_at about code state) → IsWhereItStops about stop (config_at about code state)
 stands_there about code state ready (decide seat site) there = record { decision = there; offered = (ready.kept site there.stands).offered.some }
 stands_there about code state ready is_done there = tt
 stands_there about code state ready is_limit there = tt

@@ -1,5 +1,5 @@
 use Rattle.std.proofs.Common.{ℕ, ◌+◌, map, Some, sym, ap, subst, ◌∙◌}
-use Rattle.rc_rules.specs.Control.{stands_at}
+use Rattle.rc_rules.specs.Control.{stopped_of}
 use Rattle.rc_text_model.specs.Rows.{ending_row}
 use Rattle.rc_text_model.specs.Along as along
 use Rattle.rc_text_model.proofs.LegalLemmas.{on_row_none, and_on}
@@ -12,7 +12,7 @@ pub returns-in_err-line-clause-is : goal.returns-in_err-line-clause-is
 returns-in_err-line-clause-is g c =
     let here = g.M.Machine.config c.args.machine.now in
     let r = record_seen c.args.played.now in
-    let at = Some (stands_at c.args.stop here c.args.count) in
+    let at = Some (stopped_of c.args.stop here c.args.count) in
     let halt = c.in_err-line.field-0.0 in
     hands_on (λ (n : ℕ). n) c.from_residual.result halt _ c.from_residual.ensures.1
     (halts_first halt (along.told_along c.args.line at r.shuffles)
@@ -22,7 +22,7 @@ pub returns-in_err-on_row-clause-is : goal.returns-in_err-on_row-clause-is
 returns-in_err-on_row-clause-is g c =
     let here = g.M.Machine.config c.args.machine.now in
     let r = record_seen c.args.played.now in
-    let at = Some (stands_at c.args.stop here c.args.count) in
+    let at = Some (stopped_of c.args.stop here c.args.count) in
     let row = ending_row at r.shuffles r.ending r.turn in
     let halt = c.in_err-on_row.field-0.0 in
     hands_on (λ (n : ℕ). n) c.from_residual-in_err-on_row.result halt _ c.from_residual-in_err-on_row.ensures.1
@@ -36,7 +36,7 @@ pub returns-clause-is : goal.returns-clause-is
 returns-clause-is g c =
     let here = g.M.Machine.config c.args.machine.now in
     let r = record_seen c.args.played.now in
-    let at = Some (stands_at c.args.stop here c.args.count) in
+    let at = Some (stopped_of c.args.stop here c.args.count) in
     let row = ending_row at r.shuffles r.ending r.turn in
     subst (Judges (λ (n : ℕ). n) c.scores_along.result)
     (sym (and_on (along.told_along c.args.line at r.shuffles) (λ n. along.on_row n row (along.scores_along c.args.about.now (n + 1) at 0 r.scores)) c.in_ok-line.line (c.in_ok-line.ensures.is here)

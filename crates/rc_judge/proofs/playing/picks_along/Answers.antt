@@ -5,8 +5,8 @@ use Rattle.rc_text_model.specs.Along.{marks_from, next_stop, picks_along}
 use Rattle.rc_text_model.specs.HouseText.{first_marks}
 use Rattle.rc_text_model.specs.Rows.{chosen_row, decision_row}
 use Rattle.rc_rules.specs.declared.record.Pick.{Pick}
-use Rattle.rc_rules.specs.Control.{stop_seen, stands_at}
-use Rattle.rc_rules.specs.Machine.{StandsWhereItStops, bounds_here}
+use Rattle.rc_rules.specs.Control.{stop_seen, stopped_of}
+use Rattle.rc_rules.specs.Machine.{IsWhereItStops, bounds_here}
 use Rattle.rc_rules.specs.Record.{pick_seen}
 use Rattle.rc_judge.specs.Seen.{marks_row, row_seen}
 use Rattle.rc_judge.proofs.Steps.{hands_on, marks_noted, marks_row_is, next_is, pick_halts, pick_leads, pick_noted}
@@ -20,10 +20,10 @@ returns-in_err-on_row-2-clause-is g c = λ plan m deal.
     let i = c.loop-pick.pick-index in
     let none : Pick = record { seat = 0; site = 0; item = 0; size = 0 } in
     let pick = pick_seen (get_or picks i none) in
-    let at = stands_at c.loop-pick.stop here c.loop-pick.dealer.count in
+    let at = stopped_of c.loop-pick.stop here c.loop-pick.dealer.count in
     let told = g.N.Margin.told c.loop-pick.margin in
     let same = c.loop-pick.invariant.same in
-    let stands = subst (λ about. StandsWhereItStops about (stop_seen c.loop-pick.stop) here) same c.loop-pick.invariant.stands in
+    let stands = subst (λ about. IsWhereItStops about (stop_seen c.loop-pick.stop) here) same c.loop-pick.invariant.stands in
     let stopped : decision_row about pick (stop_seen c.loop-pick.stop) here ≡ None =
     ap (λ about. decision_row about pick (stop_seen c.loop-pick.stop) here) (sym same) ∙ sym c.stopped_row.ensures.is ∙ ap row_seen c.in_ok-on_row.ensures.free in
     let row : row_seen c.in_ok-row.field-0 ≡ chosen_row about (Some at) pick (first_marks told) =
@@ -43,11 +43,11 @@ loop-pick-preserved g c =
     let none : Pick = record { seat = 0; site = 0; item = 0; size = 0 } in
     let pick = pick_seen (get_or picks i none) in
     let rest = map pick_seen (drop (i + 1) picks) in
-    let at = stands_at c.loop-pick.stop here c.loop-pick.dealer.count in
-    let next = stands_at c.in_ok-stop.stop (g.M.Machine.config c.go_on.new.machine) c.go_on.new.dealer.count in
+    let at = stopped_of c.loop-pick.stop here c.loop-pick.dealer.count in
+    let next = stopped_of c.in_ok-stop.stop (g.M.Machine.config c.go_on.new.machine) c.go_on.new.dealer.count in
     let told = g.N.Margin.told c.loop-pick.margin in
     let same = c.loop-pick.invariant.same in
-    let stands = subst (λ about. StandsWhereItStops about (stop_seen c.loop-pick.stop) here) same c.loop-pick.invariant.stands in
+    let stands = subst (λ about. IsWhereItStops about (stop_seen c.loop-pick.stop) here) same c.loop-pick.invariant.stands in
     let stopped : decision_row about pick (stop_seen c.loop-pick.stop) here ≡ None =
     ap (λ about. decision_row about pick (stop_seen c.loop-pick.stop) here) (sym same) ∙ sym c.stopped_row.ensures.is ∙ ap row_seen c.in_ok-on_row.ensures.free in
     let row : row_seen c.in_ok-row.field-0 ≡ chosen_row about (Some at) pick (first_marks told) =

@@ -1,5 +1,5 @@
 use Rattle.std.proofs.Common.{◌≡◌, ◌+◌, ◌<◌, map, drop, length, Some, arith, sym, ap, ◌∙◌}
-use Rattle.rc_rules.specs.Control.{stands_at}
+use Rattle.rc_rules.specs.Control.{stopped_of}
 use Rattle.rc_model.specs.Numbers.{below}
 use Rattle.rc_sheet_model.specs.Sheet.{Sheet}
 use Rattle.rc_play_model.specs.Scores.{scores_of, rank_points}
@@ -24,7 +24,7 @@ pub returns-in_err-on_row-clause-is : goal.returns-in_err-on_row-clause-is
 returns-in_err-on_row-clause-is g c = λ stop count.
     let about = c.args.about.now in
     let here = g.M.Machine.config c.args.machine.now in
-    let at = Some (stands_at stop here count) in
+    let at = Some (stopped_of stop here count) in
     let scores : c.scores-scores.result.items ≡ scores_of about here.table here.control =
     c.scores-scores.ensures ∙ ap (λ a. scores_of a here.table here.control) c.requires.about in
     let ranked : c.rank_points-points.result.items ≡ map (rank_points about.sheet c.scores-scores.result.items) (below about.sheet.players) =
@@ -52,7 +52,7 @@ loop-score-preserved g c =
       line = omega (arith, c.loop-score.invariant.line);
       few = omega (arith, there, long_scores about here c.scores-scores.result.items scores);
       on = λ stop count.
-          let at = Some (stands_at stop here count) in
+          let at = Some (stopped_of stop here count) in
           sym (ap (along.scores_along about c.loop-score.line at c.loop-score.index) (dropped score_seen c.args.told.now c.loop-score.score-index _ c.loop-score-test.true)
           ∙ on_row_none c.loop-score.line _
           (along.scores_along about (c.loop-score.line + 1) at (c.loop-score.index + 1) (map score_seen (drop (c.loop-score.score-index + 1) c.args.told.now)))

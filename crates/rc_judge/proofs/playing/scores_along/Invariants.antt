@@ -1,5 +1,5 @@
 use Rattle.std.proofs.Common.{◌≡◌, ℕ, ◌+◌, ◌≤◌, map, drop, Some}
-use Rattle.rc_rules.specs.Control.{stands_at}
+use Rattle.rc_rules.specs.Control.{stopped_of}
 use Rattle.rc_text_model.specs.Along as along
 use Rattle.rc_rules.specs.declared.control.Stop.{Stop}
 use Rattle.rc_rules.specs.Record.{score_seen}
@@ -12,6 +12,6 @@ invariant-loop-score g l = record {
   line : l.line ≡ l.from + l.index;
   few : l.index ≤ l.about.sheet.players;
   on : (stop : Stop) (count : ℕ) →
-      along.scores_along l.about l.line (Some (stands_at stop (g.M.Machine.config l.machine) count)) l.index (map score_seen (drop l.score-index l.told))
-      ≡ along.scores_along l.about l.from (Some (stands_at stop (g.M.Machine.config l.machine) count)) 0 (map score_seen l.told);
+      along.scores_along l.about l.line (Some (stopped_of stop (g.M.Machine.config l.machine) count)) l.index (map score_seen (drop l.score-index l.told))
+      ≡ along.scores_along l.about l.from (Some (stopped_of stop (g.M.Machine.config l.machine) count)) 0 (map score_seen l.told);
 }

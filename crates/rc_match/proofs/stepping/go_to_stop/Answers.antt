@@ -7,7 +7,7 @@ use Rattle.rc_play_model.specs.Keyed.{dealing_of}
 use Rattle.rc_rules.specs.Control.{stop_seen}
 use Rattle.rc_rules.specs.Plan.{plan_seen}
 use Rattle.rc_rules.specs.Record.{record_seen}
-use Rattle.rc_rules.specs.Machine.{StandsAtDecision, StandsWhereItStops, menu_here}
+use Rattle.rc_rules.specs.Machine.{StopsAtDecision, IsWhereItStops, menu_here}
 use Rattle.rc_match.specs.Lane.{noted, stopped_at, lane_at}
 use Rattle.rc_match.specs.Way.{IsOnWay}
 use Rattle.rc_match.proofs.WayLemmas.{checked_by, stops_next, decides_there, offers_there, leads_next, player_there, way_next}
@@ -19,7 +19,7 @@ take_any-requires-clause-decides g c =
     let is = checked_by c.deref.result.now about c.deref.ensures c.sheet-sheet.ensures.shape c.sheet-sheet.ensures.well c.sheet-sheet.ensures.sight in
     let plan = plan_seen c.args.job.now.plan.value in
     let here = g.M.Machine.config c.args.machine.now in
-    subst (λ (a : About). IfSome c.args.pick (λ item. StandsAtDecision a here)) (sym c.deref-2.ensures)
+    subst (λ (a : About). IfSome c.args.pick (λ item. StopsAtDecision a here)) (sym c.deref-2.ensures)
     (decides_there about plan c.args.job.now.number is.shape is.well is.sight
     c.args.pick here c.args.dealer.now.count (record_seen c.args.notes.now) c.requires.way)
 
@@ -51,7 +51,7 @@ returns-clause-way g c =
     c.in_ok-take_any.ensures.leads c.in_ok-stop.ensures.leads in
     let same : record_seen c.take_any.new.notes ≡ noted about here r c.args.pick =
     c.in_ok-take_any.ensures.noted ∙ ap (λ a. noted a here r c.args.pick) c.deref-2.ensures in
-    let stands = subst (λ (a : About). StandsWhereItStops a stop there) (c.in_ok-take_any.ensures.about ∙ c.deref-2.ensures) c.in_ok-stop.ensures.stands in
+    let stands = subst (λ (a : About). IsWhereItStops a stop there) (c.in_ok-take_any.ensures.about ∙ c.deref-2.ensures) c.in_ok-stop.ensures.stands in
     subst (λ n. IsOnWay about plan m (lane_at about plan m n at)) (sym same)
     (way_next about plan m is.shape is.well is.sight c.args.pick here c.args.dealer.now.count r at c.requires.way stops stands)
 

@@ -1,13 +1,13 @@
 use Rattle.std.proofs.Common.{length, arith, sym, ap, subst, ◌∙◌}
 use Rattle.rc_play_model.specs.Step.{Config}
-use Rattle.rc_rules.specs.Machine.{StandsAtDecision, menu_here}
+use Rattle.rc_rules.specs.Machine.{StopsAtDecision, menu_here}
 use Rattle.rc_redraw.specs.Asking.{ask_seen}
 use Rattle.rc_rollout.proofs.HomeLemmas.{home_stays}
 use Rattle.rc_rollout.proofs.totals.gain_from.Goals as goal
 
 pub gain_of-requires-clause-decides : goal.gain_of-requires-clause-decides
 gain_of-requires-clause-decides c =
-    subst (StandsAtDecision c.args.about.now) (sym c.go_home_but_first.ensures.at) c.requires.home.decides
+    subst (StopsAtDecision c.args.about.now) (sym c.go_home_but_first.ensures.at) c.requires.home.decides
 
 pub gain_of-requires-clause-offered : goal.gain_of-requires-clause-offered
 gain_of-requires-clause-offered c =

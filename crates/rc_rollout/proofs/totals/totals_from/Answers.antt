@@ -1,7 +1,7 @@
 use Rattle.std.proofs.Common.{IfOk, subst}
 use Rattle.rc_rules.specs.Control.{control_seen}
 use Rattle.rc_redraw.specs.Asking.{ask_seen}
-use Rattle.rc_rollout.specs.Back.{StandsAtRound}
+use Rattle.rc_rollout.specs.Back.{IsAtRound}
 use Rattle.rc_rollout.proofs.StandingLemmas.{can_decide, stands_made}
 use Rattle.rc_rollout.proofs.totals.totals_from.Goals as goal
 
@@ -13,7 +13,7 @@ at_decision-requires-clause-decides g c =
 pub totals_by-requires-clause-stands : goal.totals_by-requires-clause-stands
 totals_by-requires-clause-stands g c =
     let made = c.at_decision.ensures in
-    subst (λ r. IfOk r (StandsAtRound c.args.about.now (ask_seen c.args.ask.now) 0)) c.in-Ok.is
+    subst (λ r. IfOk r (IsAtRound c.args.about.now (ask_seen c.args.ask.now) 0)) c.in-Ok.is
     (stands_made c.args.about.now c.in_ok-own.own (ask_seen c.args.ask.now) 0 c.args.first (control_seen c.copy-control.result) c.at_decision.result
     c.menu_sizes_are_functions_of_views.ensures.redrawn c.sheet-sheet.ensures.shape c.sheet-sheet.ensures.sight c.requires.at c.in_ok-own.ensures c.requires.table c.copy-control.ensures
     made.about made.home made.at made.fresh)

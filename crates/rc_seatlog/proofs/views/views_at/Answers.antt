@@ -10,7 +10,7 @@ use Rattle.rc_play_model.specs.View.{view_of}
 use Rattle.rc_log_model.specs.Views.{views_from}
 use Rattle.rc_rules.specs.Control.{stop_seen}
 use Rattle.rc_rules.specs.Record.{pick_seen}
-use Rattle.rc_rules.specs.Machine.{StandsAtDecision, StandsWhereItStops, menu_here}
+use Rattle.rc_rules.specs.Machine.{StopsAtDecision, IsWhereItStops, menu_here}
 use Rattle.rc_rules.specs.declared.record.Pick.{Pick}
 use Rattle.rc_log_model.specs.Plays.{IsPlayOf}
 use Rattle.rc_view.specs.Seen.{view_seen}
@@ -64,7 +64,7 @@ go_on-requires-clause-decision g c =
     let config = g.M.Machine.config c.loop-pick.machine in
     let d : Pick = record { seat = 0; site = 0; item = 0; size = 0 } in
     let made = goes about (dealing_of c.args.deal) picks c.loop-pick.pick-index d _ inv.leads.0 c.loop-pick-test.true inv.leads.1 in
-    subst (λ about. StandsAtDecision about config) (sym inv.same) (stands_there about _ c.loop-pick.invariant.0 config inv.stands made.0)
+    subst (λ about. StopsAtDecision about config) (sym inv.same) (stands_there about _ c.loop-pick.invariant.0 config inv.stands made.0)
 
 pub go_on-requires-clause-offered : goal.go_on-requires-clause-offered
 go_on-requires-clause-offered g c =
@@ -100,7 +100,7 @@ loop-pick-preserved g c =
       record {
         fresh = c.in_ok-go_on.ensures.fresh;
         same = c.in_ok-go_on.ensures.same ∙ inv.same;
-        stands = subst (λ about. StandsWhereItStops about stop' config') (c.in_ok-go_on.ensures.same ∙ inv.same) c.in_ok-go_on.ensures.stands;
+        stands = subst (λ about. IsWhereItStops about stop' config') (c.in_ok-go_on.ensures.same ∙ inv.same) c.in_ok-go_on.ensures.stands;
         deals = c.in_ok-go_on.ensures.dealing ∙ inv.deals;
         leads = goes_on about deal picks i d at next c.loop-pick-test.true inv.leads goes-there;
         seen = sees_on about deal c.args.seat picks i d at next (map view_seen c.loop-pick.views.items) (map view_seen c.push.new.self.items) (view_seen c.in_ok-view_of.field-0) c.loop-pick-test.true

@@ -2,7 +2,7 @@ use Rattle.std.proofs.Common.{◌≡◌, Bool, true, ap, sym, refl, ◌∙◌, s
 use Rattle.rc_play_model.specs.Stop.{stop_of}
 use Rattle.rc_play_model.proofs.StopLemmas.{steps_less, step_keeps, stop_here}
 use Rattle.rc_rules.specs.Control.{stop_seen}
-use Rattle.rc_rules.specs.Machine.{StandsWhereItStops}
+use Rattle.rc_rules.specs.Machine.{IsWhereItStops}
 use Rattle.rc_code.specs.Seen.{list_seen}
 use Rattle.rc_board.specs.Undo.{Keeps}
 use Rattle.rc_board.proofs.KeepsLemmas.{keeps_then}
@@ -69,8 +69,8 @@ returns-in-Some-clause-stands g c =
     let state = c.one_step.new.state in
     let stop = stop_seen c.in-Some.stop in
     let code = list_seen c.deref-code.result.now in
-    subst (λ a. StandsWhereItStops a stop (config_at about (list_seen c.self.inside.code.value.list.items) state)) (ap (λ (m : Machine). m.about) c.self.view_is)
-    (subst (λ list. StandsWhereItStops about stop (config_at about (list_seen list) state)) same
+    subst (λ a. IsWhereItStops a stop (config_at about (list_seen c.self.inside.code.value.list.items) state)) (ap (λ (m : Machine). m.about) c.self.view_is)
+    (subst (λ list. IsWhereItStops about stop (config_at about (list_seen list) state)) same
     (stands_there about code state c.in-Ok.ensures.ready stop
     (c.stops_stay.ensures.there about (g.D.Dealer.dealing c.args.dealer.now) (g.D.Dealer.state c.args.dealer.now) (config_at about code c.self.inside.state)
     (record { stop = stop; config = config_at about code state; dealer = g.D.Dealer.state c.one_step.new.dealer }) (leads_there g c))))

@@ -1,5 +1,5 @@
 use Rattle.std.proofs.Common.{ap, ◌∙◌, sym, subst}
-use Rattle.rc_rules.specs.Machine.{StandsAtDecision, menu_here}
+use Rattle.rc_rules.specs.Machine.{StopsAtDecision, menu_here}
 use Rattle.rc_code.specs.Seen.{list_seen}
 use Rattle.rc_flat.specs.Machine.{Machine}
 use Rattle.rc_stand.proofs.KeptLemmas.{kept_here}
@@ -10,5 +10,5 @@ returns c =
     let m = c.self.inside in
     c.copy_menu.ensures
     ∙ kept_here m.about (list_seen m.code.value.list.items) m.state (c.self.invariant.ready (ap (λ (m : Machine). m.spent) c.self.view_is ∙ c.requires.fresh))
-    (subst (λ (m : Machine). StandsAtDecision m.about m.config) (sym c.self.view_is) c.requires.decision)
+    (subst (λ (m : Machine). StopsAtDecision m.about m.config) (sym c.self.view_is) c.requires.decision)
     ∙ ap (λ (m : Machine). menu_here m.about m.config) c.self.view_is
