@@ -2,4 +2,4 @@ pub mod Purposes
 pub mod Rows
 pub mod Kept
 pub mod Neighbours
-pub mod Series
+pub mod Sequence

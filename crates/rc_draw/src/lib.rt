@@ -7,7 +7,7 @@
 mod lanes;
 mod purpose;
 mod rounds;
-mod series;
+mod sequence;
 mod word;
 
 ghost use Rattle.std.specs.Prelude.{◌≡◌, ◌<◌, ◌≤◌, length};
@@ -23,7 +23,7 @@ use rand_chacha::ChaCha8Rng;
 use rand_core::SeedableRng;
 use rand_core::utils::NextWord;
 use rc_play_model::keys_pick_and_permute;
-pub use series::KeySeries;
+pub use sequence::KeySequence;
 
 /// The key of four numbers, one behind the other with their lowest bytes first.
 pub fn key32(a: u64, b: u64, c: u64, d: u64) -> [u8; 32]

@@ -1,7 +1,7 @@
 //! Picks by keys of four numbers that differ in the lower half of the last.
 ghost use Rattle.std.specs.Prelude.{◌≡◌, ◌<◌};
 ghost use Rattle.rc_play_model.specs.Draws as draws;
-ghost use Rattle.rc_draw.specs.Series.{AreFirstWords, key_at};
+ghost use Rattle.rc_draw.specs.Sequence.{AreFirstWords, key_at};
 
 use crate::lanes::first_words;
 use crate::word::WORDS;
@@ -12,7 +12,7 @@ use std::marker::Model;
 /// keys with numbers in a row are generated together and kept, since most picks are by the number behind that of the
 /// last pick.
 #[derive(Debug, Drop)]
-pub struct KeySeries {
+pub struct KeySequence {
     a: u64,
     b: u64,
     c: u64,
@@ -22,24 +22,24 @@ pub struct KeySeries {
     words: [u32; 4],
 }
 
-impl Model for KeySeries {
-    ghost use Rattle.rc_draw.specs.Series.{Series};
+impl Model for KeySequence {
+    ghost use Rattle.rc_draw.specs.Sequence.{Sequence};
 
-    ghost Value = { Series };
+    ghost Value = { Sequence };
 
-    ghost use Rattle.rc_draw.specs.Kept.{series_seen, KeepsWords};
+    ghost use Rattle.rc_draw.specs.Kept.{sequence_seen, KeepsWords};
 
-    ghost view = { series_seen };
+    ghost view = { sequence_seen };
 
     ghost invariant = { KeepsWords };
 }
 
-impl KeySeries {
+impl KeySequence {
     /// The keys of these numbers. No word is generated yet.
-    pub fn new(a: u64, b: u64, c: u64, upper: u32) -> KeySeries
+    pub fn new(a: u64, b: u64, c: u64, upper: u32) -> KeySequence
         ensures { result ≡ record { a = a; b = b; c = c; upper = upper } }
     {
-        KeySeries {
+        KeySequence {
             a,
             b,
             c,

@@ -1,7 +1,7 @@
 use Rattle.std.proofs.Common.{ap, ◌∙◌}
 use Rattle.rand_chacha.specs.ChaCha.{word_at}
 use Rattle.rc_draw.proofs.KeyLemmas.{neighbours_count_up}
-use Rattle.rc_draw.proofs.series.words_from.Goals as goal
+use Rattle.rc_draw.proofs.sequence.words_from.Goals as goal
 
 pub returns : goal.returns
 returns c = λ j less.
