@@ -23,7 +23,7 @@ use Rattle.rc_text_model.specs.Lines.{Line, opening, chosen, shuffled, ending, s
 use Rattle.rc_text_model.specs.HouseText.{ended_lines, record_lines, lines_of, IsHouseText}
 use Rattle.rc_text_model.specs.Legal.{IsLegal, AreRecords}
 use Rattle.rc_text_model.proofs.Fitting.{choices_in, picks_in, choices_of_matches}
-use Rattle.rc_text.specs.House.{house_seen}
+use Rattle.rc_text.specs.House.{house_text_seen}
 use Rattle.rc_text.specs.declared.house.HouseText.{HouseText}
 use Rattle.rc_answers.specs.Measured.{IsMeasurable}
 
@@ -71,8 +71,9 @@ each_within (r ∷ matches) all =
     (All-from_recursion (λ s. IsWithinClamp s.score) r.scores.items (scores_within r.scores.items lines.1), each_within matches both.1)
 
 pub measurable : (about : About) (plan : Plan) (text : HouseText) → IsWithinLimits (plan_seen plan)
-    → length (plan_seen plan).strategies ≡ about.sheet.players → IsHouseText (house_seen text)
-    → length (lines_of (house_seen text)) ≤ longest_text → IsLegal about dealing_of (plan_seen plan) (house_seen text)
+    → length (plan_seen plan).strategies ≡ about.sheet.players → IsHouseText (house_text_seen text)
+    → length (lines_of (house_text_seen text)) ≤ longest_text
+        → IsLegal about dealing_of (plan_seen plan) (house_text_seen text)
     → IsMeasurable plan text.matches.items
 measurable about plan text within seats is few legal =
     let matches = text.matches.items in
@@ -84,7 +85,7 @@ measurable about plan text within seats is few legal =
     let some = within.count.0 in
     let most = within.count.1 in
     let players = within.seats.1 in
-    let choices = few_choices (lines_of (house_seen text)) in
+    let choices = few_choices (lines_of (house_text_seen text)) in
     let all = choices_of_matches records standings in
     let lines = parts_of_append IsInRange (flat_map record_lines records) (map ranked standings) is.ranges in
     record {

@@ -7,7 +7,7 @@ use Rattle.rc_play_model.specs.Keyed.{dealing_of}
 use Rattle.rc_play_model.specs.Plan.{Plan}
 use Rattle.rc_log_model.specs.Views.{log_of}
 use Rattle.rc_records.specs.Series.{looks_of}
-use Rattle.rc_search_model.specs.Rivals.{rival_house}
+use Rattle.rc_search_model.specs.Rivals.{rival_house_text}
 use Rattle.rc_command.specs.declared.rival.Rival.{Rival as NamedRival}
 use Rattle.rc_text_model.specs.HouseText.{HouseText, NamedText}
 use Rattle.rc_text_model.specs.Judged.{first_illegal}
@@ -59,7 +59,7 @@ rivalled_note : (rival : NamedRival) (about : About) (plan : Plan) (bytes note :
 rivalled_note rival about plan bytes note playouts same = by (nat_lt rival.strategy (length plan.strategies)) same
   where
     by : (there : Bool)
-        → (if there then text (rival_house about (searching rival) plan) [] 0 else refused refusal.Absent) ≡ text bytes note playouts
+        → (if there then text (rival_house_text about (searching rival) plan) [] 0 else refused refusal.Absent) ≡ text bytes note playouts
         → note ≡ []
     by true same = cc
     by false same = absurd cc

@@ -6,7 +6,7 @@ use Rattle.rc_play_model.specs.About.{About, about_of}
 use Rattle.rc_play_model.specs.Plan.{Plan}
 use Rattle.rc_redraw.specs.Asking.{Key}
 use Rattle.rc_records.specs.Series.{looks_of}
-use Rattle.rc_text_model.specs.PlayedLaws.{house_in}
+use Rattle.rc_text_model.specs.PlayedLaws.{house_text_in}
 use Rattle.rc_command.specs.declared.options.Options.{Options}
 use Rattle.rc_command.specs.declared.options.Format.{Format}
 use Rattle.rc_command.specs.Words.{is_named}
@@ -220,7 +220,7 @@ alike_answers task source answer other has has' =
 -- the text of an accepted sheet and plan, whoever plays
 played_text : (options : Options) (source : List ℕ) (sheet : sheets.Sheet) (others : List Tree) (rest : ℕ) (bytes note : List ℕ) (playouts : ℕ)
     (is : IsAnswered (Play options) source sheet others rest (text bytes note playouts))
-    → bytes ≡ house_in (is_named options.format) (about_of sheet is.0.turns) is.0
+    → bytes ≡ house_text_in (is_named options.format) (about_of sheet is.0.turns) is.0
 played_text options source sheet others rest bytes note playouts is = let same = is.2.2 in cc
 
 -- a text that is answered
@@ -241,6 +241,6 @@ same_texts options others source bytes bytes' note note' playouts playouts' form
     (accepted_of (λ sheet lists rest. IsAnswered (Play others) source sheet lists rest (text bytes' note' playouts')) source 2 mine.0 own.0 own.1) in
     let same = one_accepted_plan source both.0.players both.1 mine.0.rest both.2.0 both.3.0 both.2.1 both.3.1 in
     played_text options source both.0 both.1 mine.0.rest bytes note playouts both.2
-    ∙ ap (λ (format : Format). house_in (is_named format) (about_of both.0 both.2.0.turns) both.2.0) format
+    ∙ ap (λ (format : Format). house_text_in (is_named format) (about_of both.0 both.2.0.turns) both.2.0) format
     ∙ sym (played_text others source both.0 both.1 mine.0.rest bytes' note' playouts' both.3
-    ∙ ap (λ plan. house_in (is_named others.format) (about_of both.0 plan.turns) plan) same)
+    ∙ ap (λ plan. house_text_in (is_named others.format) (about_of both.0 plan.turns) plan) same)

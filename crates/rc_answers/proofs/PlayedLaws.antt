@@ -7,7 +7,7 @@ use Rattle.rc_play_model.specs.About.{About, about_of}
 use Rattle.rc_play_model.specs.Plan.{Plan}
 use Rattle.rc_records.specs.Series.{looks_of}
 use Rattle.rc_text_model.specs.HouseText.{HouseText}
-use Rattle.rc_text_model.specs.PlayedLaws.{played_text, told_in, house_in}
+use Rattle.rc_text_model.specs.PlayedLaws.{played_text, told_in, house_text_in}
 use Rattle.rc_text_model.specs.PlayedBack.{IsPlayable, IsToldBack}
 use Rattle.rc_text_model.proofs.Behind.{dropped_behind, spelled_behind}
 use Rattle.rc_text_model.proofs.ToldBack.{told_back}
@@ -28,7 +28,7 @@ use Rattle.rc_answers.proofs.OneAnswer.{same_texts, text_accepted}
 use Rattle.rc_answers.proofs.SomeAnswer.{some_hits}
 
 -- a house text begins with the line of its format
-format_told : (named : Bool) (about : About) (plan : Plan) → tells_bounds (house_in named about plan) ≡ named
+format_told : (named : Bool) (about : About) (plan : Plan) → tells_bounds (house_text_in named about plan) ≡ named
 format_told false about plan = refl
 format_told true about plan = refl
 
@@ -39,7 +39,7 @@ text_told true about plan told = refl
 -- The house text of an accepted sheet and plan is answered as a legal one.
 played_answered : (asked : Judging) (named : Bool) (form : Tree) (sheet : Sheet) (others : List Tree) (plan : Plan) → IsAccepted form sheet
     → IsPlanRead sheet.players others plan
-    → transcript_answer asked (about_of sheet plan.turns) plan (house_in named (about_of sheet plan.turns) plan)
+    → transcript_answer asked (about_of sheet plan.turns) plan (house_text_in named (about_of sheet plan.turns) plan)
     ≡ legal_answer asked (about_of sheet plan.turns) plan (played_text (about_of sheet plan.turns) plan)
 played_answered asked named form sheet [] plan is read = absurd read
 played_answered asked named form sheet (plan_form ∷ others) plan is read =
@@ -48,7 +48,7 @@ played_answered asked named form sheet (plan_form ∷ others) plan is read =
     let playable : IsPlayable about plan =
     record { shape = refl; well = is.of_form.well; sight = is.sight; turns = refl; within = read.within; seats = read.seats } in
     let back : IsToldBack named about plan = told_back about plan playable (cards_few sheet is.of_form.well) named in
-    ap (λ told. answer_in asked told about plan (house_in named about plan)) (format_told named about plan)
+    ap (λ told. answer_in asked told about plan (house_text_in named about plan)) (format_told named about plan)
     ∙ ap (read_answer asked named about plan) back.read
     ∙ ap (judged_as (legal_answer asked about plan (told_in named about plan told).text)) back.passed
     ∙ ap (legal_answer asked about plan) (text_told named about plan told)
@@ -59,7 +59,7 @@ played_legal named form sheet others plan is read = played_answered judging.Chec
 -- the same where it stands behind them
 answered_behind : (asked : Judging) (named : Bool) (source : List ℕ) (form : Tree) (others : List Tree) (rest : ℕ) (sheet : Sheet) (plan : Plan)
     → Spelled source 2 (form ∷ others) rest → IsAccepted form sheet → IsPlanRead sheet.players others plan
-    → drop rest source ≡ house_in named (about_of sheet plan.turns) plan
+    → drop rest source ≡ house_text_in named (about_of sheet plan.turns) plan
     → HasAnswer (task_of asked) source (legal_answer asked (about_of sheet plan.turns) plan (played_text (about_of sheet plan.turns) plan))
 answered_behind asked named source form others rest sheet plan spelled is read told =
     let about : About = about_of sheet plan.turns in
@@ -92,7 +92,7 @@ just_two first second more P (inr fewer) = let less = fewer.0 in absurd (omega (
 
 -- Forms that a whole source spells it spells with a house text behind it too.
 spelled_before : (named : Bool) (about : About) (plan : Plan) (source : List ℕ) (lists : List Tree) → Spelled source 2 lists (length source) → length lists ≡ 2
-    → Spelled (source ++ 10 ∷ house_in named about plan) 2 lists (length source + 1)
+    → Spelled (source ++ 10 ∷ house_text_in named about plan) 2 lists (length source + 1)
 spelled_before false about plan source lists spelled two = spelled_behind source 2 lists _ _ spelled two refl
 spelled_before true about plan source lists spelled two = spelled_behind source 2 lists _ _ spelled two refl
 
@@ -104,7 +104,7 @@ written_behind : (asked : Judging) (options : Options) (source bytes note : List
 written_behind asked options source bytes note playouts form plan_form more rest sheet spelled is has =
     let plan = has.0 in
     let about : About = about_of sheet plan.turns in
-    let house : List ℕ = house_in (is_named options.format) about plan in
+    let house : List ℕ = house_text_in (is_named options.format) about plan in
     let lists : List Tree = form ∷ plan_form ∷ more in
     let whole : Spelled source 2 lists (length source) = subst (Spelled source 2 lists) has.1.1 spelled in
     let behind = spelled_before (is_named options.format) about plan source lists whole (just_two form plan_form more _ spelled.enough) in
@@ -142,8 +142,8 @@ played_migrated options others source bytes bytes' note note' playouts playouts'
         let read : Reading source 2 = record { lists = form ∷ plan_form ∷ more; rest = rest; spelled = spelled } in
         let own : HasAnswer (Play others) source (house_played others about plan hits.0) =
         accepted read (sheet, has.1, (plan, has.2.1, (hits.0, hits.1, refl))) in
-        let same : house_in true about plan ≡ bytes' =
-        ap (λ (format : Format). house_in (is_named format) about plan) (sym named) ∙ same_texts others others source _ bytes' _ note' _ playouts' refl own has' in
+        let same : house_text_in true about plan ≡ bytes' =
+        ap (λ (format : Format). house_text_in (is_named format) about plan) (sym named) ∙ same_texts others others source _ bytes' _ note' _ playouts' refl own has' in
         subst (λ bytes'. HasAnswer Migrate (source ++ 10 ∷ bytes) (text bytes' [] 0)) same
         (written_behind judging.Migrate options source bytes note playouts form plan_form more rest sheet spelled has.1 has.2)
 

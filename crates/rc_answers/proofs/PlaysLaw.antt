@@ -4,7 +4,7 @@ use Rattle.rc_model.specs.Tree.{Tree}
 use Rattle.rc_sheet_model.specs.Sheet.{Sheet}
 use Rattle.rc_play_model.specs.About.{about_of}
 use Rattle.rc_play_model.specs.Plan.{Plan}
-use Rattle.rc_text_model.specs.PlayedLaws.{house_in}
+use Rattle.rc_text_model.specs.PlayedLaws.{house_text_in}
 use Rattle.rc_command.specs.Words.{is_named}
 use Rattle.rc_answers.specs.declared.task.Task.TheVariants.{Play}
 use Rattle.rc_answers.specs.Reading.{IsAcceptedWith}
@@ -26,6 +26,6 @@ written_played options source bytes note playouts (accepted read has) = (read, b
         let sheet : Sheet = has.0 in
         let plan : Plan = has.2.0 in
         let named = is_named options.format in
-        let house : List ℕ = house_in named (about_of sheet plan.turns) plan in
+        let house : List ℕ = house_text_in named (about_of sheet plan.turns) plan in
         let written = same_bytes bytes house note _ playouts _ has.2.2.2 in
         (sheet, has.1, (plan, has.2.1, subst (TellsPlays named sheet plan) (sym written) (house_tells sheet plan has.1.of_form.well has.1.sight named)))

@@ -26,7 +26,7 @@ use Rattle.rc_play_model.proofs.TurnLemmas.{turns_within}
 use Rattle.rc_play_model.proofs.SiteLemmas.{unwrap}
 use Rattle.rc_text_model.specs.HouseText.{HouseText}
 use Rattle.rc_text_model.specs.Legal.{IsRecordOfPlay, AreRecords}
-use Rattle.rc_text_model.specs.PlayedLaws.{played_text, house_in}
+use Rattle.rc_text_model.specs.PlayedLaws.{played_text, house_text_in}
 use Rattle.rc_text_model.proofs.PlayedLemmas.{played_legal}
 use Rattle.rc_answers.specs.Plays.{HasEnded, IsPlayedOut, TellsPlays}
 
@@ -145,7 +145,7 @@ module _ (sheet : Sheet) (plan : Plan) (well : IsWellFormed sheet) (sight : IsIn
       )
 
   -- so the house text tells plays
-  pub house_tells : (named : Bool) → TellsPlays named sheet plan (house_in named about plan)
+  pub house_tells : (named : Bool) → TellsPlays named sheet plan (house_text_in named about plan)
   house_tells named =
       record {
         told = played_text about plan;

@@ -10,7 +10,7 @@ use Rattle.rc_play_model.specs.Plan.{Plan}
 use Rattle.rc_play_model.specs.Keyed.{dealing_of}
 use Rattle.rc_text_model.specs.Fields.{behind}
 use Rattle.rc_text_model.specs.HouseText.{HouseText, NamedText, text_in}
-use Rattle.rc_text_model.specs.PlayedLaws.{format_by, house_in, told_in}
+use Rattle.rc_text_model.specs.PlayedLaws.{format_by, house_text_in, told_in}
 use Rattle.rc_text_model.specs.Reading.{read_in}
 use Rattle.rc_text_model.specs.Why.{Illegal}
 use Rattle.rc_text_model.specs.Judged.{first_illegal}
@@ -19,7 +19,7 @@ use Rattle.rc_measure.specs.Measures.{measures_of}
 use Rattle.rc_measure.specs.Text.{measures_text}
 use Rattle.rc_records.specs.Series.{looks_of}
 use Rattle.rc_search_model.specs.Search.{Rival as Searching}
-use Rattle.rc_search_model.specs.Rivals.{rival_house}
+use Rattle.rc_search_model.specs.Rivals.{rival_house_text}
 use Rattle.rc_sheet_model.specs.Sheet as sheet
 use Rattle.rc_sheet_model.specs.Printing.{printed_sheet}
 use Rattle.rc_plan_model.specs.Limits.{IsWithinLimits}
@@ -55,12 +55,12 @@ pub data Answer : Type 0 where
   refused : (refusal : Refusal) → Answer
 
 -- The house text of a plan in the format that the options name: the plays of all matches in order, and the standings.
--- It is house_in of rc_text_model, a definition that knows of no book and no worker, so it is the same whoever plays,
--- and whatever the book has. All other options have a part in the note and in the playouts alone: the note tells how
--- many looks there were, and how many of them hit.
+-- It is house_text_in of rc_text_model, a definition that knows of no book and no worker, so it is the same whoever
+-- plays, and whatever the book has. All other options have a part in the note and in the playouts alone: the note tells
+-- how many looks there were, and how many of them hit.
 abbrev pub house_played : Options → About → Plan → ℕ → Answer
 house_played options about plan found =
-    text (house_in (is_named options.format) about plan) (looks_line (length (looks_of about plan)) found)
+    text (house_text_in (is_named options.format) about plan) (looks_line (length (looks_of about plan)) found)
     (counted_playouts options (looks_of about plan))
 
 abbrev pub IsPlayed : Options → About → Plan → Answer → Type 0
@@ -134,7 +134,7 @@ searching rival =
 -- its strategies, where there is such a strategy.
 abbrev pub rivalled : NamedRival → About → Plan → Answer
 rivalled rival about plan =
-    if nat_lt rival.strategy (length plan.strategies) then text (rival_house about (searching rival) plan) [] 0
+    if nat_lt rival.strategy (length plan.strategies) then text (rival_house_text about (searching rival) plan) [] 0
     else refused refusal.Absent
 
 -- The plan is accepted, nothing follows it, and this is the answer to the sheet and the plan.

@@ -4,7 +4,7 @@ use Rattle.rc_model.specs.Tree.{Tree}
 use Rattle.rc_sheet_model.specs.Sheet.{Sheet}
 use Rattle.rc_play_model.specs.About.{about_of}
 use Rattle.rc_play_model.specs.Plan.{Plan}
-use Rattle.rc_text_model.specs.PlayedLaws.{house_in, played_text}
+use Rattle.rc_text_model.specs.PlayedLaws.{house_text_in, played_text}
 use Rattle.rc_sheet_laws.specs.Accepted.{IsAccepted}
 use Rattle.rc_command.specs.declared.options.Options.{Options}
 use Rattle.rc_command.specs.declared.options.Format.TheVariants.{Named}
@@ -20,14 +20,15 @@ abbrev pub PlayedIsLegal : Type 0
 PlayedIsLegal =
     (named : Bool) (form : Tree) (sheet : Sheet) (others : List Tree) (plan : Plan) → IsAccepted form sheet →
     IsPlanRead sheet.players others plan →
-    transcript_answer judging.Check (about_of sheet plan.turns) plan (house_in named (about_of sheet plan.turns) plan)
+    transcript_answer judging.Check (about_of sheet plan.turns) plan
+        (house_text_in named (about_of sheet plan.turns) plan)
     ≡ called_legal
 
 -- Behind the sheet stands a plan, and from here on the source is the house text of both, in this format.
 abbrev pub IsPlayedBehind : (named : Bool) → List ℕ → ℕ → Sheet → List Tree → Type 0
 IsPlayedBehind named source rest sheet others =
     (plan : Plan) × IsPlanRead sheet.players others plan
-    × (drop rest source ≡ house_in named (about_of sheet plan.turns) plan)
+    × (drop rest source ≡ house_text_in named (about_of sheet plan.turns) plan)
 
 -- To an accepted sheet and plan with their house text behind them `check` answers that it is legal.
 abbrev pub PlayedIsAnsweredLegal : Type 0

@@ -6,7 +6,7 @@ ghost use Rattle.rc_play_model.specs.About.{about_of};
 ghost use Rattle.rc_text_model.specs.HouseText.{IsHouseText, IsText, lines_of, naming, text_in, unmarked};
 ghost use Rattle.rc_text_model.specs.PlayedLaws.{format_by};
 ghost use Rattle.rc_text_model.specs.Reading.{lines_in};
-ghost use Rattle.rc_text.specs.House.{house_seen, named_seen, Fits};
+ghost use Rattle.rc_text.specs.House.{house_text_seen, named_seen, Fits};
 ghost use Rattle.rc_rules.specs.Plan.{plan_seen};
 ghost use Rattle.rc_answers.specs.declared.transcript.Judging.TheVariants as judging;
 ghost use Rattle.rc_answers.specs.Answer.{IsAnswerIn, IsJudged, IsReadAnswer};
@@ -118,10 +118,10 @@ fn verdict_answer(
 ) -> Result<Answer, Memory>
     requires within { IsWithinLimits (plan_seen plan.now) }
     requires seats { length (plan_seen plan.now).strategies ≡ checked.players }
-    requires text { IsHouseText (house_seen text.now) }
-    requires few { 1 + length (lines_of (house_seen text.now)) ≤ longest_text }
+    requires text { IsHouseText (house_text_seen text.now) }
+    requires few { 1 + length (lines_of (house_text_seen text.now)) ≤ longest_text }
     ensures { IfOk result (IsReadAnswer judging.Check false (about_of checked plan.now.turns) (plan_seen plan.now)
-        (Ok (unmarked (house_seen text.now)))) }
+        (Ok (unmarked (house_text_seen text.now)))) }
 {
     let about = shared_about(alloc, checked, plan.turns)?;
     match judge(alloc, &about, plan, text)? {
@@ -139,10 +139,10 @@ fn migrated_answer(
 ) -> Result<Answer, Memory>
     requires within { IsWithinLimits (plan_seen plan.now) }
     requires seats { length (plan_seen plan.now).strategies ≡ checked.players }
-    requires text { IsHouseText (house_seen text) }
-    requires few { 1 + length (lines_of (house_seen text)) ≤ longest_text }
+    requires text { IsHouseText (house_text_seen text) }
+    requires few { 1 + length (lines_of (house_text_seen text)) ≤ longest_text }
     ensures { IfOk result (IsReadAnswer judging.Migrate false (about_of checked plan.now.turns) (plan_seen plan.now)
-        (Ok (unmarked (house_seen text)))) }
+        (Ok (unmarked (house_text_seen text)))) }
 {
     let legend = legend_of(alloc, &checked)?;
     let about = shared_about(alloc, checked, plan.turns)?;
@@ -161,10 +161,10 @@ fn measured_answer(
 ) -> Result<Answer, Memory>
     requires within { IsWithinLimits (plan_seen plan.now) }
     requires seats { length (plan_seen plan.now).strategies ≡ checked.players }
-    requires text { IsHouseText (house_seen text.now) }
-    requires few { 1 + length (lines_of (house_seen text.now)) ≤ longest_text }
+    requires text { IsHouseText (house_text_seen text.now) }
+    requires few { 1 + length (lines_of (house_text_seen text.now)) ≤ longest_text }
     ensures { IfOk result (IsReadAnswer judging.Measure false (about_of checked plan.now.turns) (plan_seen plan.now)
-        (Ok (unmarked (house_seen text.now)))) }
+        (Ok (unmarked (house_text_seen text.now)))) }
 {
     let about = shared_about(alloc, checked, plan.turns)?;
     match judge(alloc, &about, plan, text)? {
@@ -186,7 +186,7 @@ fn named_verdict(
     requires seats { length (plan_seen plan.now).strategies ≡ checked.players }
     requires text { IsText true (named_seen named.now) }
     requires fits { Fits named.now }
-    requires few { length (lines_of (house_seen named.now.text)) ≤ longest_text }
+    requires few { length (lines_of (house_text_seen named.now.text)) ≤ longest_text }
     requires told { bytes.now ≡ text_in (format_by true (about_of checked plan.now.turns)) (named_seen named.now) }
     ensures { IfOk result (IsReadAnswer asked true (about_of checked plan.now.turns) (plan_seen plan.now)
         (Ok (named_seen named.now))) }
@@ -232,7 +232,7 @@ fn named_text(alloc: Global, legend: &[u8], named: &NamedText) -> Result<Answer,
 /// The measures of a house text. Memory may run out.
 fn measured_text(alloc: Global, plan: &Plan, text: &HouseText) -> Result<Answer, Memory>
     requires { IsMeasurable plan.now text.now.matches.items }
-    ensures { IfOk result (λ answer. seen answer 0 ≡ measured (plan_seen plan.now) (house_seen text.now)) }
+    ensures { IfOk result (λ answer. seen answer 0 ≡ measured (plan_seen plan.now) (house_text_seen text.now)) }
 {
     let measures = measures_of(alloc, plan, &text.matches)?;
     let text = write_measures(alloc, &measures)?;

@@ -17,7 +17,7 @@ use Rattle.rc_rules.specs.Record.{record_seen, standing_seen}
 use Rattle.rc_text.specs.House.{named_seen}
 use Rattle.rc_text_model.specs.HouseText.{NamedText as PureNamed, naming, text_in, text_of}
 use Rattle.rc_text_model.specs.Naming.{legend_of}
-use Rattle.rc_text_model.specs.PlayedLaws.{house_in, played_text}
+use Rattle.rc_text_model.specs.PlayedLaws.{house_text_in, played_text}
 use Rattle.rc_text_model.specs.Reading.{lines_in}
 use Rattle.rc_text_model.proofs.SameTexts.{text_same}
 use Rattle.rc_trick.specs.Trick.{IsTrickGame}
@@ -72,7 +72,7 @@ few_counted options before after sheet plan steps steps' reads few =
 -- the house text of a series is that of its plan, in either format
 house_told : (format : Format) (sheet : Sheet) (plan : Plan) (series : Series) (legend : List ℕ) → HasLegend format sheet legend
     → IsTold (is_named format) (about_of sheet plan.turns) plan series.named
-    → series_text format (lines_in legend).0 series ≡ house_in (is_named format) (about_of sheet plan.turns) plan
+    → series_text format (lines_in legend).0 series ≡ house_text_in (is_named format) (about_of sheet plan.turns) plan
 house_told Plain sheet plan series legend has told =
     ap (λ (named : PureNamed). text_of named.text) told.told ∙ text_same (played_text (about_of sheet plan.turns) plan)
 house_told Named sheet plan series legend has told =
@@ -88,7 +88,7 @@ house_answers : (options : Options) (before after : Port) (sheet : Sheet) (plan 
 house_answers options before after sheet plan steps steps' series legend bytes note steady reads is has written noted =
     let about = about_of sheet plan.turns in
     let playouts = counted_playouts options (looks_of about plan) in
-    let house = house_in (is_named options.format) about plan in
+    let house = house_text_in (is_named options.format) about plan in
     let wrote : bytes.items ≡ house = written ∙ house_told options.format sheet plan series legend has is.named in
     let told : seen (Text bytes note) playouts ≡ house_played options about plan series.totals.hits =
     ap (λ bytes. text bytes (note_line note) playouts) wrote

@@ -18,7 +18,7 @@ ghost use Rattle.rc_judge.specs.declared.verdict.Verdict.TheVariants.{Legal};
 ghost use Rattle.rc_rules.specs.Plan.{plan_seen, IsPlanFor};
 ghost use Rattle.rc_rules.specs.Record.{record_seen, standing_seen};
 ghost use Rattle.rc_text.specs.BoundSeen.{all_bounds, AreFor};
-ghost use Rattle.rc_text.specs.House.{house_seen, named_seen, Fits};
+ghost use Rattle.rc_text.specs.House.{house_text_seen, named_seen, Fits};
 ghost use Rattle.rc_judge.specs.Seen.{Finds, Judges, IfLegal, illegal_in, row_seen, verdict_seen, lines_in_all, lists_over};
 
 use crate::legend::face_count;
@@ -43,16 +43,16 @@ use std::alloc::Global;
 pub fn judge(alloc: Global, about: &About, plan: &Plan, text: &HouseText) -> Result<Verdict, Memory>
     requires within { IsWithinLimits (plan_seen plan.now) }
     requires seats { IsPlanFor about.now plan.now }
-    requires text { IsHouseText (house_seen text.now) }
-    requires few { 1 + length (lines_of (house_seen text.now)) ≤ 33554432 }
+    requires text { IsHouseText (house_text_seen text.now) }
+    requires few { 1 + length (lines_of (house_text_seen text.now)) ≤ 33554432 }
 
     // Where a line is illegal, it is the first one that the definitions find, and why.
     ensures first { IfOk result (λ v. verdict_seen v
-        ≡ first_illegal about.now dealing_of (plan_seen plan.now) 1 (unmarked (house_seen text.now))) }
+        ≡ first_illegal about.now dealing_of (plan_seen plan.now) 1 (unmarked (house_text_seen text.now))) }
 
     // There is none exactly where sheet and plan allow all that the text tells.
     ensures legal { IfOk result (λ v. (v ≡ Legal)
-        ↔ IsLegal about.now dealing_of (plan_seen plan.now) (house_seen text.now)) }
+        ↔ IsLegal about.now dealing_of (plan_seen plan.now) (house_text_seen text.now)) }
 {
     texts_are_of_lines();
     one_pass_judges();
@@ -75,7 +75,7 @@ pub fn judge_named(
     requires seats { IsPlanFor about.now plan.now }
     requires text { IsText true (named_seen named.now) }
     requires fits { Fits named.now }
-    requires few { length (lines_of (house_seen named.now.text)) ≤ 33554432 }
+    requires few { length (lines_of (house_text_seen named.now.text)) ≤ 33554432 }
 
     // Where a line is illegal, it is the first one that the definitions find, and why. The head and the legend are
     // counted, too.
@@ -108,20 +108,20 @@ pub fn judge_and_name(
 ) -> Result<Named, Memory>
     requires within { IsWithinLimits (plan_seen plan.now) }
     requires seats { IsPlanFor about.now plan.now }
-    requires text { IsHouseText (house_seen text.now) }
-    requires few { 1 + length (lines_of (house_seen text.now)) ≤ 33554432 }
+    requires text { IsHouseText (house_text_seen text.now) }
+    requires few { 1 + length (lines_of (house_text_seen text.now)) ≤ 33554432 }
 
     // Where a line is illegal, it is the first one that the definitions find, and why.
     ensures first { IfOk result (λ n. illegal_in n
-        ≡ first_illegal about.now dealing_of (plan_seen plan.now) 1 (unmarked (house_seen text.now))) }
+        ≡ first_illegal about.now dealing_of (plan_seen plan.now) 1 (unmarked (house_text_seen text.now))) }
 
     // There is none exactly where sheet and plan allow all that the text tells.
     ensures legal { IfOk result (λ n. (illegal_in n ≡ None)
-        ↔ IsLegal about.now dealing_of (plan_seen plan.now) (house_seen text.now)) }
+        ↔ IsLegal about.now dealing_of (plan_seen plan.now) (house_text_seen text.now)) }
 
     // Where the text is legal, what its items bind is told as the definitions tell it.
     ensures marks { IfOk result (λ n. IfLegal n (λ bounds. all_bounds bounds.items
-        ≡ played.bounds_of about.now (plan_seen plan.now) (house_seen text.now))) }
+        ≡ played.bounds_of about.now (plan_seen plan.now) (house_text_seen text.now))) }
     ensures fits { IfOk result (λ n. IfLegal n (λ bounds. AreFor text.now.matches.items bounds.items)) }
 {
     texts_are_of_lines();
@@ -169,10 +169,10 @@ fn text_along<N: Margin>(
 ) -> Result<(), Halt>
     requires within { IsWithinLimits (plan_seen plan.now) }
     requires seats { IsPlanFor about.now plan.now }
-    requires text { IsHouseText (house_seen text.now) }
-    requires few { head + length (lines_of (house_seen text.now)) ≤ 67108864 }
+    requires text { IsHouseText (house_text_seen text.now) }
+    requires few { head + length (lines_of (house_text_seen text.now)) ≤ 67108864 }
     ensures is { Finds result (along.judged about.now dealing_of (plan_seen plan.now) head
-        (record { text = house_seen text.now; marks = N.told margin.old })) }
+        (record { text = house_text_seen text.now; marks = N.told margin.old })) }
     ensures noted { N.notes ≡ true → N.here margin.old ≡ [] → OnOk result (N.before margin.new ≡ N.before margin.old
         ++ lists_over about.now dealing_of (plan_seen plan.now) 0 (map record_seen text.now.matches.items)) }
 {

@@ -6,7 +6,7 @@ ghost use Rattle.rc_text_model.specs.HouseText.{IsHouseText, lines_of};
 ghost use Rattle.rc_text_model.specs.Legal.{IsLegal};
 ghost use Rattle.rc_text_model.specs.PlayedLaws.{told_in};
 ghost use Rattle.rc_rules.specs.Plan.{plan_seen, IsPlanFor};
-ghost use Rattle.rc_text.specs.House.{house_seen, named_seen, Fits};
+ghost use Rattle.rc_text.specs.House.{house_text_seen, named_seen, Fits};
 
 use crate::judging::judge_and_name;
 use crate::verdict::Named;
@@ -28,13 +28,13 @@ pub fn bounds_of(
 ) -> Result<NamedText, Memory>
     requires within { IsWithinLimits (plan_seen plan.now) }
     requires seats { IsPlanFor about.now plan.now }
-    requires text { IsHouseText (house_seen text.now) }
-    requires few { 1 + length (lines_of (house_seen text.now)) ≤ 33554432 }
-    requires legal { IsLegal about.now dealing_of (plan_seen plan.now) (house_seen text.now) }
+    requires text { IsHouseText (house_text_seen text.now) }
+    requires few { 1 + length (lines_of (house_text_seen text.now)) ≤ 33554432 }
+    requires legal { IsLegal about.now dealing_of (plan_seen plan.now) (house_text_seen text.now) }
 
     // The text is the same, and its marks are those of its items.
     ensures named { IfOk result (λ named. named_seen named
-        ≡ told_in true about.now (plan_seen plan.now) (house_seen text.now)) }
+        ≡ told_in true about.now (plan_seen plan.now) (house_text_seen text.now)) }
     ensures fits { IfOk result Fits }
 {
     let text_of = text.copy(alloc)?;

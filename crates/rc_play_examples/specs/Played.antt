@@ -9,7 +9,7 @@ use Rattle.rc_naming.specs.Naming.{naming_of}
 use Rattle.rc_reading.specs.ReadSheet.{sheet_at}
 use Rattle.rc_play_model.specs.Plan.{Strategy, scripted, random, rollout, Deal, Plan}
 use Rattle.rc_play_model.specs.About.{about_of}
-use Rattle.rc_play_model.specs.Keyed.{keyed_house}
+use Rattle.rc_play_model.specs.Keyed.{keyed_house_text}
 
 -- the number that a word spells
 abbrev pub number_of : Tree → ℕ
@@ -63,13 +63,14 @@ plan_at (cons seats (cons matches (cons turns parts))) =
 plan_at other = record { strategies = []; matches = []; turns = 0 }
 
 -- the house text of a sheet's form and a plan; nothing where no sheet is said
-abbrev pub house_with : Tree → Plan → Option (List ℕ)
-house_with sheet plan = option_map (λ s. keyed_house (about_of s plan.turns) plan) (sheet_at (naming_of sheet) sheet)
+abbrev pub house_text_with : Tree → Plan → Option (List ℕ)
+house_text_with sheet plan =
+    option_map (λ s. keyed_house_text (about_of s plan.turns) plan) (sheet_at (naming_of sheet) sheet)
 
-abbrev pub house_by_forms : Reading → Option (List ℕ)
-house_by_forms (Ok ((sheet ∷ plan ∷ []), behind)) = house_with sheet (plan_at (behind_head plan))
-house_by_forms other = None
+abbrev pub house_text_by_forms : Reading → Option (List ℕ)
+house_text_by_forms (Ok ((sheet ∷ plan ∷ []), behind)) = house_text_with sheet (plan_at (behind_head plan))
+house_text_by_forms other = None
 
 -- the house text of a source
-abbrev pub house_of : List ℕ → Option (List ℕ)
-house_of source = house_by_forms (read 2 [] [] (tokens source))
+abbrev pub house_text_of : List ℕ → Option (List ℕ)
+house_text_of source = house_text_by_forms (read 2 [] [] (tokens source))

@@ -9,7 +9,7 @@ ghost use Rattle.rc_code.specs.Seen.{code_seen};
 ghost use Rattle.rc_code.specs.Stands.{StandsFor};
 ghost use Rattle.rc_rules.specs.Plan.{plan_seen, IsPlanFor};
 ghost use Rattle.rc_rules.specs.Record.{record_seen};
-ghost use Rattle.rc_search_model.specs.Rivals.{rival_house, rival_match, rival_records};
+ghost use Rattle.rc_search_model.specs.Rivals.{rival_house_text, rival_match, rival_records};
 ghost use Rattle.rc_search.specs.Rival.{IsRival, rival_seen};
 ghost use Rattle.rc_cache.specs.Fresh.{HasNames, HasParts};
 
@@ -50,7 +50,7 @@ pub fn rivals_of(
 
     // The bytes are the house text that the definitions give where the search plays for that strategy.
     ensures { IfOk result (λ bytes. bytes.items
-        ≡ rival_house (about_of checked plan.turns) (rival_seen rival.now) (plan_seen plan)) }
+        ≡ rival_house_text (about_of checked plan.turns) (rival_seen rival.now) (plan_seen plan)) }
 {
     let about = shared_about(alloc, checked, plan.turns)?;
     let code = shared_code(alloc, &about)?;
@@ -75,7 +75,7 @@ fn told<N: BookNaming>(
     requires names { HasNames fresh N.looks N.hits N.keeps }
     requires parts { HasParts fresh N.lanes }
     ensures { IfOk result (λ bytes. bytes.items
-        ≡ rival_house about.now.value (rival_seen rival.now) (plan_seen plan.now.value)) }
+        ≡ rival_house_text about.now.value (rival_seen rival.now) (plan_seen plan.now.value)) }
 {
     let mut choices = own_choices::<N>(alloc, fresh, about, code, ENTRIES)?;
     let matches = counted_records::<Choices<OwnBook<N>>, Brand>(

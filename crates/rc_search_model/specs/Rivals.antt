@@ -36,5 +36,5 @@ module _ (about : About) (rival : Rival) (plan : Plan) where
   rival_records = filter_map rival_match (below (length plan.matches))
 
   -- the house text of these
-  abbrev pub rival_house : List ℕ
-  rival_house = let records = rival_records in house_text records (standings_of plan records)
+  abbrev pub rival_house_text : List ℕ
+  rival_house_text = let records = rival_records in house_text records (standings_of plan records)

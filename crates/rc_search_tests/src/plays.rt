@@ -66,7 +66,7 @@ fn plan_in(alloc: Global, text: &[u8], players: u8) -> Result<Plan, Fail>
 }
 
 /// The text of that match where this one searches.
-fn house_of(alloc: Global, rival: &Rival) -> Result<Vec<u8>, Fail>
+fn house_text_of(alloc: Global, rival: &Rival) -> Result<Vec<u8>, Fail>
     requires { IsRival rival.now }
 {
     let checked = sheet_in(alloc, FOUR_CARDS)?;
@@ -79,7 +79,7 @@ fn house_of(alloc: Global, rival: &Rival) -> Result<Vec<u8>, Fail>
 fn expect_house(rt: &(impl AllocGlobal + Abort), rival: &Rival, expected: &[u8]) -> Result<(), Fail>
     requires { IsRival rival.now }
 {
-    let house = house_of(rt.alloc(), rival)?;
+    let house = house_text_of(rt.alloc(), rival)?;
     assert_eq!(rt; house.as_slice(), expected);
     Ok(())
 }

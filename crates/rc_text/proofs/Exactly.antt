@@ -5,7 +5,7 @@ use Rattle.rc_text_model.specs.HouseText.{HouseText as PureText, Format, plain, 
 use Rattle.rc_text_model.specs.Reading.{read_in}
 use Rattle.rc_text_model.specs.Laws.{ReadIsText, PlainText, TextIsHouseText, LinesAreFew, IsFirstFault}
 use Rattle.rc_text_model.proofs.Fitting.{never_marks}
-use Rattle.rc_text.specs.House.{text_of, house_seen, named_seen}
+use Rattle.rc_text.specs.House.{text_of, house_text_seen, named_seen}
 use Rattle.rc_text.specs.Gives.{Gives, IfTextFault}
 use Rattle.rc_text.specs.declared.house.HouseText.{HouseText}
 use Rattle.rc_text.specs.declared.house.NamedText.{NamedText}
@@ -36,7 +36,7 @@ module _ {X : Type 0} (f : Format) (view : X → PureNamed) (bytes : List ℕ) w
 -- ---- without marks
 
 abbrev pub plain_seen : HouseText → PureNamed
-plain_seen text = unmarked (house_seen text)
+plain_seen text = unmarked (house_text_seen text)
 
 abbrev ok : PureNamed → Result PureNamed ℕ
 ok n = Ok n
@@ -48,21 +48,21 @@ same_text : (a b : PureText) → ok (unmarked a) ≡ ok (unmarked b) → a ≡ b
 same_text a b e = ap (λ (n : PureNamed). n.text) (same_named (unmarked a) (unmarked b) e)
 
 pub house_is : (r : Result HouseText TextFail) (bytes : List ℕ) → Gives plain_seen r (read_in plain bytes) → ReadIsText → TextIsHouseText →
-    IfOk r (λ text. IsHouseText (house_seen text))
+    IfOk r (λ text. IsHouseText (house_text_seen text))
 house_is (Ok text) bytes gives only house = house false (plain_seen text) (only plain bytes (plain_seen text) gives).0
 house_is (Err fail) bytes gives only house = tt
 
 pub house_spelled : (r : Result HouseText TextFail) (bytes : List ℕ) → Gives plain_seen r (read_in plain bytes) → ReadIsText → PlainText →
     IfOk r (λ text. bytes ≡ text_of text)
-house_spelled (Ok text) bytes gives only same = (only plain bytes (plain_seen text) gives).1 ∙ sym (same (house_seen text))
+house_spelled (Ok text) bytes gives only same = (only plain bytes (plain_seen text) gives).1 ∙ sym (same (house_text_seen text))
 house_spelled (Err fail) bytes gives only same = tt
 
-pub house_again : (r : Result HouseText TextFail) (told : PureText) → Gives plain_seen r (Ok (unmarked told)) → Gives house_seen r (Ok told)
-house_again (Ok text) told gives = ap (λ t. Ok t) (same_text told (house_seen text) gives)
+pub house_again : (r : Result HouseText TextFail) (told : PureText) → Gives plain_seen r (Ok (unmarked told)) → Gives house_text_seen r (Ok told)
+house_again (Ok text) told gives = ap (λ t. Ok t) (same_text told (house_text_seen text) gives)
 house_again (Err (Fault line)) told gives = absurd cc
 house_again (Err Memory) told gives = tt
 
-pub house_fails : (r : Result HouseText TextFail) (line : ℕ) → Gives plain_seen r (Err line) → Gives house_seen r (Err line)
+pub house_fails : (r : Result HouseText TextFail) (line : ℕ) → Gives plain_seen r (Err line) → Gives house_text_seen r (Err line)
 house_fails (Ok text) line gives = absurd cc
 house_fails (Err (Fault line')) line gives = let same : line ≡ line' = cc in ap (λ n. Err n) same
 house_fails (Err Memory) line gives = tt
@@ -71,7 +71,7 @@ house_fails (Err Memory) line gives = tt
 pub no_marks_read : (named : NamedText) (bytes : List ℕ) → read_in plain bytes ≡ Ok (named_seen named) → ReadIsText →
     read_in plain bytes ≡ Ok (plain_seen named.text)
 no_marks_read named bytes read only =
-    read ∙ ap (λ marks. Ok (record { text = house_seen named.text; marks = marks })) (never_marks (named_seen named) (only plain bytes (named_seen named) read).0)
+    read ∙ ap (λ marks. Ok (record { text = house_text_seen named.text; marks = marks })) (never_marks (named_seen named) (only plain bytes (named_seen named) read).0)
 
 -- ---- faults of the head
 

@@ -18,13 +18,13 @@ abbrev pub text_of : HouseText → List ℕ
 text_of text = house_text (map record_seen text.matches.items) (map standing_seen text.standings.items)
 
 -- the matches and the standings that it tells
-abbrev pub house_seen : HouseText → PureText
-house_seen text =
+abbrev pub house_text_seen : HouseText → PureText
+house_text_seen text =
     record { matches = map record_seen text.matches.items; standings = map standing_seen text.standings.items }
 
 -- with its marks, one after the other
 abbrev pub named_seen : NamedText → PureNamed
-named_seen named = record { text = house_seen named.text; marks = all_bounds named.bounds.items }
+named_seen named = record { text = house_text_seen named.text; marks = all_bounds named.bounds.items }
 
 -- there is one list for each match, with an entry for each of its choices
 abbrev pub Fits : NamedText → Type 0

@@ -1,7 +1,7 @@
 //! Copies of house texts.
 ghost use Rattle.std.specs.Prelude.{◌≡◌, map, IfOk};
 ghost use Rattle.rc_rules.specs.Record.{record_seen};
-ghost use Rattle.rc_text.specs.House.{house_seen};
+ghost use Rattle.rc_text.specs.House.{house_text_seen};
 
 use crate::house::HouseText;
 use rc_deck::Memory;
@@ -15,7 +15,7 @@ impl HouseText {
     ///
     /// No memory is left.
     pub fn copy(&self, alloc: Global) -> Result<HouseText, Memory>
-        ensures { IfOk result (λ copy. house_seen copy ≡ house_seen self.now) }
+        ensures { IfOk result (λ copy. house_text_seen copy ≡ house_text_seen self.now) }
     {
         let matches = copy_matches(alloc, &self.matches)?;
         let standings = Vec::from_slice(alloc, &self.standings)?;

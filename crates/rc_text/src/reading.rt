@@ -6,7 +6,7 @@ ghost use Rattle.rc_text_model.specs.HouseText.{HouseText as ToldText, NamedText
 ghost use Rattle.rc_text_model.specs.HouseText.{lines_of, text_in, IsHouseText, IsText};
 ghost use Rattle.rc_text_model.specs.Reading.{before, lines_in, read_from, read_in};
 ghost use Rattle.rc_text_model.specs.Laws.{IsFirstFault, ReadIsText};
-ghost use Rattle.rc_text.specs.House.{text_of, house_seen, named_seen, Fits};
+ghost use Rattle.rc_text.specs.House.{text_of, house_text_seen, named_seen, Fits};
 ghost use Rattle.rc_text.specs.Gives.{Gives, IfTextFault};
 ghost use Rattle.rc_text.specs.PlaceSeen.{stand_seen, open_stand, IsFit, StandsFit};
 
@@ -51,19 +51,19 @@ pub fn read_house(alloc: Global, bytes: &[u8]) -> Result<HouseText, TextFail>
     requires short { length bytes.now ≤ 33554432 }
 
     // What is read is a house text with the bytes as its text, and it has no more lines than bytes.
-    ensures is { IfOk result (λ text. IsHouseText (house_seen text)) }
+    ensures is { IfOk result (λ text. IsHouseText (house_text_seen text)) }
     ensures spelled { IfOk result (λ text. bytes.now ≡ text_of text) }
-    ensures few { IfOk result (λ text. 1 + length (lines_of (house_seen text)) ≤ length bytes.now) }
+    ensures few { IfOk result (λ text. 1 + length (lines_of (house_text_seen text)) ≤ length bytes.now) }
 
     // The bytes of any house text are read as that one.
     ensures again { (told : ToldText) → IsHouseText told → bytes.now ≡ house_text told.matches told.standings
-        → Gives house_seen result (Ok told) }
+        → Gives house_text_seen result (Ok told) }
 
     // A fault is at the first line that no house text goes on with, and where there is such a line, it is found.
     ensures fault { IfErr result (λ fail. IfTextFault fail (IsFirstFault plain bytes.now)) }
-    ensures first { (line : ℕ) → IsFirstFault plain bytes.now line → Gives house_seen result (Err line) }
+    ensures first { (line : ℕ) → IsFirstFault plain bytes.now line → Gives house_text_seen result (Err line) }
 
-    ensures exact { Gives (λ text. unmarked (house_seen text)) result (read_in plain bytes.now) }
+    ensures exact { Gives (λ text. unmarked (house_text_seen text)) result (read_in plain bytes.now) }
 {
     texts_are_of_lines();
     texts_are_read();
@@ -74,7 +74,7 @@ pub fn read_house(alloc: Global, bytes: &[u8]) -> Result<HouseText, TextFail>
 /// What was read of a text that has no marks.
 fn without_marks(read: Result<NamedText, TextFail>) -> Result<HouseText, TextFail>
     ensures { (bytes : List ℕ) → ReadIsText → Gives named_seen read (read_in plain bytes)
-        → Gives (λ text. unmarked (house_seen text)) result (read_in plain bytes) }
+        → Gives (λ text. unmarked (house_text_seen text)) result (read_in plain bytes) }
 {
     match read {
         Ok(named) => Ok(named.text),
@@ -96,7 +96,8 @@ pub fn read_named(alloc: Global, legend: &[u8], bytes: &[u8]) -> Result<NamedTex
     ensures spelled { IfOk result (λ named.
         bytes.now ≡ text_in (naming (lines_in legend.now).0) (named_seen named)) }
     ensures few { IfOk result (λ named.
-        length (naming (lines_in legend.now).0).head + length (lines_of (house_seen named.text)) ≤ length bytes.now) }
+        length (naming (lines_in legend.now).0).head + length (lines_of (house_text_seen named.text))
+        ≤ length bytes.now) }
     ensures again { (told : PureNamed) → IsText true told → bytes.now ≡ text_in (naming (lines_in legend.now).0) told
         → Gives named_seen result (Ok told) }
     ensures fault { IfErr result (λ fail. IfTextFault fail (IsFirstFault (naming (lines_in legend.now).0) bytes.now)) }

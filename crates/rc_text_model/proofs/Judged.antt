@@ -7,7 +7,7 @@ use Rattle.rc_text_model.proofs.Readings.{is_grammar}
 use Rattle.rc_text_model.proofs.SameTexts.{text_same, plain_is}
 use Rattle.rc_play_model.specs.About.{About}
 use Rattle.rc_play_model.specs.Plan.{Plan}
-use Rattle.rc_play_model.specs.Keyed.{dealing_of, keyed_house}
+use Rattle.rc_play_model.specs.Keyed.{dealing_of, keyed_house_text}
 use Rattle.rc_text_model.specs.Judged.{first_illegal}
 use Rattle.rc_text_model.specs.Legal.{IsLegalText}
 use Rattle.rc_text_model.specs.PlayedLaws.{played_text}
@@ -28,7 +28,7 @@ module _ (about : About) (plan : Plan) (is : IsPlayable about plan) where
       let good = plain_is (played_text about plan) (played_house about plan is) in
       (legal, sym (one_pass about dealing_of plan false 1 n good) ∙ legal_back about dealing_of plan false 1 n good legal)
 
-  pub read_back : read_in plain (keyed_house about plan) ≡ Ok (unmarked (played_text about plan))
+  pub read_back : read_in plain (keyed_house_text about plan) ≡ Ok (unmarked (played_text about plan))
   read_back =
       ap (read_in plain) (text_same (played_text about plan))
       ∙ text_read (is_grammar plain (search rules)) (unmarked (played_text about plan)) (plain_is (played_text about plan) (played_house about plan is))
@@ -37,6 +37,6 @@ module _ (about : About) (plan : Plan) (is : IsPlayable about plan) where
   same_text t u (Ok v) e e' = cc
   same_text t u (Err n) e e' = absurd cc
 
-  pub judged_legal : (n : NamedText) → read_in plain (keyed_house about plan) ≡ Ok n → IsJudgedLegal about plan n
+  pub judged_legal : (n : NamedText) → read_in plain (keyed_house_text about plan) ≡ Ok n → IsJudgedLegal about plan n
   judged_legal n read =
-      subst (IsJudgedLegal about plan) (same_text (unmarked (played_text about plan)) n (read_in plain (keyed_house about plan)) read_back read) played_judged
+      subst (IsJudgedLegal about plan) (same_text (unmarked (played_text about plan)) n (read_in plain (keyed_house_text about plan)) read_back read) played_judged

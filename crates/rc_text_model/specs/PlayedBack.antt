@@ -8,13 +8,13 @@ use Rattle.rc_sheet_model.specs.WellFormed.{IsWellFormed}
 use Rattle.rc_play_model.specs.Shape.{shape_of}
 use Rattle.rc_play_model.specs.About.{About}
 use Rattle.rc_play_model.specs.Plan.{Plan}
-use Rattle.rc_play_model.specs.Keyed.{dealing_of, keyed_house}
+use Rattle.rc_play_model.specs.Keyed.{dealing_of, keyed_house_text}
 use Rattle.rc_plan_model.specs.Limits.{IsWithinLimits}
 use Rattle.rc_text_model.specs.HouseText.{plain, NamedText, unmarked, IsText, IsHouseText}
 use Rattle.rc_text_model.specs.Reading.{read_in}
 use Rattle.rc_text_model.specs.Judged.{first_illegal}
 use Rattle.rc_text_model.specs.Legal.{IsLegalText}
-use Rattle.rc_text_model.specs.PlayedLaws.{played_text, told_in, format_by, house_in}
+use Rattle.rc_text_model.specs.PlayedLaws.{played_text, told_in, format_by, house_text_in}
 
 -- A well formed sheet that keeps the sight rule, and a plan within the limits that has a strategy for each of its players.
 pub record IsPlayable (about : About) (plan : Plan) : Type 0 where
@@ -31,12 +31,12 @@ PlayedIsHouseText = (about : About) (plan : Plan) → IsPlayable about plan → 
 
 -- and is read back off its bytes
 abbrev pub PlayedIsRead : Type 0
-PlayedIsRead = (about : About) (plan : Plan) → IsPlayable about plan → read_in plain (keyed_house about plan) ≡ Ok (unmarked (played_text about plan))
+PlayedIsRead = (about : About) (plan : Plan) → IsPlayable about plan → read_in plain (keyed_house_text about plan) ≡ Ok (unmarked (played_text about plan))
 
 -- What is read off the bytes of a plan's house text is legal, and no line of it is illegal.
 abbrev pub PlayedIsJudgedLegal : Type 0
 PlayedIsJudgedLegal =
-    (about : About) (plan : Plan) → IsPlayable about plan → (n : NamedText) → read_in plain (keyed_house about plan) ≡ Ok n →
+    (about : About) (plan : Plan) → IsPlayable about plan → (n : NamedText) → read_in plain (keyed_house_text about plan) ≡ Ok n →
     IsLegalText about dealing_of plan false n × (first_illegal about dealing_of plan 1 n ≡ None)
 
 -- A source of so many forms and nothing else, with an LF and a house text behind it, is read as the same forms, and its rest is that
@@ -44,13 +44,13 @@ PlayedIsJudgedLegal =
 abbrev pub PlayedStandsBehind : Type 0
 PlayedStandsBehind =
     (about : About) (plan : Plan) (source : List ℕ) (want : ℕ) (forms : List Tree) → Spelled source want forms (length source) → length forms ≡ want →
-    Spelled (source ++ 10 ∷ keyed_house about plan) want forms (length source + 1)
-    × (drop (length source + 1) (source ++ 10 ∷ keyed_house about plan) ≡ keyed_house about plan)
+    Spelled (source ++ 10 ∷ keyed_house_text about plan) want forms (length source + 1)
+    × (drop (length source + 1) (source ++ 10 ∷ keyed_house_text about plan) ≡ keyed_house_text about plan)
 
 -- In either format what is played has a text, is read back off its bytes, and no line of it is illegal.
 pub record IsToldBack (named : Bool) (about : About) (plan : Plan) : Type 0 where
   pub text : IsText named (told_in named about plan (played_text about plan))
-  pub read : read_in (format_by named about) (house_in named about plan) ≡ Ok (told_in named about plan (played_text about plan))
+  pub read : read_in (format_by named about) (house_text_in named about plan) ≡ Ok (told_in named about plan (played_text about plan))
   pub passed : first_illegal about dealing_of plan (length (format_by named about).head) (told_in named about plan (played_text about plan)) ≡ None
 
 abbrev pub PlayedIsToldBack : Type 0

@@ -8,7 +8,7 @@ use Rattle.rc_play_model.specs.Shape.{shape_of}
 use Rattle.rc_play_model.specs.About.{About}
 use Rattle.rc_play_model.specs.Plan.{Plan}
 use Rattle.rc_play_model.specs.House.{records_of, standings_of}
-use Rattle.rc_play_model.specs.Keyed.{choice_of, dealing_of, keyed_house}
+use Rattle.rc_play_model.specs.Keyed.{choice_of, dealing_of, keyed_house_text}
 use Rattle.rc_play_model.specs.MatchLaws.{HasNumberedSites}
 use Rattle.rc_text_model.specs.Along.{judged, marks_of_text}
 use Rattle.rc_text_model.specs.Legal.{IsLegalText}
@@ -33,12 +33,12 @@ format_by false about = plain
 format_by true about = naming (legend_of about.sheet about.shape)
 
 -- the house text of a plan in either format
-abbrev pub house_in : (named : Bool) → About → Plan → List ℕ
-house_in named about plan = text_in (format_by named about) (told_in named about plan (played_text about plan))
+abbrev pub house_text_in : (named : Bool) → About → Plan → List ℕ
+house_text_in named about plan = text_in (format_by named about) (told_in named about plan (played_text about plan))
 
 -- without marks its bytes are the house text of the plan
 abbrev pub HouseTextIsPlayed : Type 0
-HouseTextIsPlayed = (about : About) (plan : Plan) → keyed_house about plan ≡ house_in false about plan
+HouseTextIsPlayed = (about : About) (plan : Plan) → keyed_house_text about plan ≡ house_text_in false about plan
 
 -- What is played is legal. Of the sheet it asks that choices are numbered in the order of the text and that it keeps the sight rule;
 -- of the plan it asks nothing.

@@ -7,7 +7,7 @@ use Rattle.rc_text_model.specs.Legal.{IsLegal}
 use Rattle.rc_text_model.specs.PlayedLaws.{bounds_of}
 use Rattle.rc_rules.specs.Bounds.{bounds_seen}
 use Rattle.rc_rules.specs.Plan.{plan_seen}
-use Rattle.rc_text.specs.House.{house_seen}
+use Rattle.rc_text.specs.House.{house_text_seen}
 use Rattle.rc_text.specs.BoundSeen.{all_bounds, AreFor}
 use Rattle.rc_judge.specs.Seen.{Finds}
 use Rattle.rc_judge.proofs.Fits.{noted_all, noted_fits}
@@ -18,18 +18,18 @@ pub returns-clause-first : goal.returns-clause-first
 returns-clause-first c =
     let about = c.args.about.now in
     let plan = plan_seen c.args.plan.now in
-    let text = unmarked (house_seen c.args.text.now) in
+    let text = unmarked (house_text_seen c.args.text.now) in
     c.named_by.ensures.found (first_illegal about dealing_of plan 1 text)
     (subst (Finds c.text_along-judged.result)
-    (c.one_pass_judges.ensures about dealing_of plan false 1 text (c.texts_are_of_lines.ensures.bare (house_seen c.args.text.now) c.requires.text)) c.text_along-judged.ensures.is)
+    (c.one_pass_judges.ensures about dealing_of plan false 1 text (c.texts_are_of_lines.ensures.bare (house_text_seen c.args.text.now) c.requires.text)) c.text_along-judged.ensures.is)
 
 pub returns-clause-legal : goal.returns-clause-legal
 returns-clause-legal c =
     let about = c.args.about.now in
     let plan = plan_seen c.args.plan.now in
-    let text = unmarked (house_seen c.args.text.now) in
-    let is = c.texts_are_of_lines.ensures.bare (house_seen c.args.text.now) c.requires.text in
-    named_legal c.named_by.result (first_illegal about dealing_of plan 1 text) (IsLegal about dealing_of plan (house_seen c.args.text.now))
+    let text = unmarked (house_text_seen c.args.text.now) in
+    let is = c.texts_are_of_lines.ensures.bare (house_text_seen c.args.text.now) c.requires.text in
+    named_legal c.named_by.result (first_illegal about dealing_of plan 1 text) (IsLegal about dealing_of plan (house_text_seen c.args.text.now))
     (c.named_by.ensures.found (first_illegal about dealing_of plan 1 text)
     (subst (Finds c.text_along-judged.result) (c.one_pass_judges.ensures about dealing_of plan false 1 text is) c.text_along-judged.ensures.is))
     (only_legal about plan text (c.legal_exactly.ensures about dealing_of plan false 1 text is))
@@ -38,7 +38,7 @@ pub returns-clause-marks : goal.returns-clause-marks
 returns-clause-marks c =
     let about = c.args.about.now in
     let plan = plan_seen c.args.plan.now in
-    let text = house_seen c.args.text.now in
+    let text = house_text_seen c.args.text.now in
     let notes = c.text_along-judged.new.margin.before in
     noted_then c.named_by.result c.text_along-judged.result notes (λ bounds. all_bounds bounds.items ≡ bounds_of about plan text) c.named_by.ensures.notes
     (on_ok c.text_along-judged.result

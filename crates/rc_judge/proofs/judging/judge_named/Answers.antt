@@ -6,7 +6,7 @@ use Rattle.rc_text_model.specs.Naming.{legend_of, face_line, face_numbers}
 use Rattle.rc_text_model.specs.Judged.{first_illegal}
 use Rattle.rc_text_model.specs.Legal.{IsLegalText}
 use Rattle.rc_rules.specs.Plan.{plan_seen}
-use Rattle.rc_text.specs.House.{house_seen, named_seen}
+use Rattle.rc_text.specs.House.{house_text_seen, named_seen}
 use Rattle.rc_judge.specs.Seen.{Finds, marks_left}
 use Rattle.rc_judge.proofs.Steps.{legal_is}
 use Rattle.rc_judge.proofs.judging.judge_named.Goals as goal
@@ -25,7 +25,7 @@ returns-clause-first c =
     let marks = c.new-told.ensures ∙ ap (marks_left []) c.deref-2.ensures.value in
     c.verdict_of.ensures (first_illegal about dealing_of plan head text)
     (subst (Finds c.text_along.result)
-    ((λ i. judged about dealing_of plan (1 + lines i) (record { text = house_seen c.args.named.now.text; marks = marks i }))
+    ((λ i. judged about dealing_of plan (1 + lines i) (record { text = house_text_seen c.args.named.now.text; marks = marks i }))
     ∙ c.one_pass_judges.ensures about dealing_of plan true head text c.requires.text) c.text_along.ensures.is)
 
 pub returns-clause-legal : goal.returns-clause-legal
@@ -40,6 +40,6 @@ returns-clause-legal c =
     legal_is c.verdict_of.result (first_illegal about dealing_of plan head text) (IsLegalText about dealing_of plan true text)
     (c.verdict_of.ensures (first_illegal about dealing_of plan head text)
     (subst (Finds c.text_along.result)
-    ((λ i. judged about dealing_of plan (1 + lines i) (record { text = house_seen c.args.named.now.text; marks = marks i }))
+    ((λ i. judged about dealing_of plan (1 + lines i) (record { text = house_text_seen c.args.named.now.text; marks = marks i }))
     ∙ c.one_pass_judges.ensures about dealing_of plan true head text c.requires.text) c.text_along.ensures.is))
     (c.legal_exactly.ensures about dealing_of plan true head text c.requires.text)
