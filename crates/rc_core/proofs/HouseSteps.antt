@@ -12,7 +12,7 @@ use Rattle.rc_play_model.specs.Plan.{Plan}
 use Rattle.rc_rules.specs.Plan.{plan_seen}
 use Rattle.rc_redraw.specs.Asking.{Key}
 use Rattle.rc_flat.specs.Machine.{Machine}
-use Rattle.rc_match.specs.Lane.{Phase, ready, asks, missed, holds, over, spent, Lane, phase_seen}
+use Rattle.rc_match.specs.Lane.{Phase, ready, asks, missed, holds, over, spent, MatchLane, phase_seen}
 use Rattle.rc_match.specs.Way.{IsFresh}
 use Rattle.rc_match.specs.declared.lane.Phase.{Phase as StoredPhase}
 use Rattle.rc_match.specs.LaneLaws.{with_phase}
@@ -44,7 +44,7 @@ set_same (y ∷ xs) zero x is = let same : y ≡ x = cc in ap (λ z. z ∷ xs) (
 set_same (y ∷ xs) (suc m) x is = ap (λ zs. y ∷ zs) (set_same xs m x is)
 
 -- what a match is behind work that was refused, or wasn't
-worked_sound : {T E : Type 0} (r : Result T E) (about : About) (plan : Plan) (m : ℕ) (lane lane' : Lane) → IsChecked about →
+worked_sound : {T E : Type 0} (r : Result T E) (about : About) (plan : Plan) (m : ℕ) (lane lane' : MatchLane) → IsChecked about →
     IsSoundMatch about plan m lane → OnOk r (lane' ≡ worked about plan m lane lane.phase) →
     OnErr r ((lane' ≡ lane) ⊎ BecomesSpent lane lane') → IsSoundMatch about plan m lane'
 worked_sound (Ok x) about plan m lane lane' checked sound is lacks =
@@ -232,7 +232,7 @@ module _ (i : Inside) (kept : IsKept i) (m : ℕ) (state : LaneState Machine) (l
         keep_kept is = event_kept (keeps m) (put_in i m (waiting state phase) entries) (keep_leaves refl phase entries is) (nothing_left refl phase entries lacks)
 
 -- each match of a sound house is that of the plan
-of_plan_from : (h : House) (m : ℕ) (sound : IsSound h) (o : Option Lane) → slice_get h.matches m ≡ o →
+of_plan_from : (h : House) (m : ℕ) (sound : IsSound h) (o : Option MatchLane) → slice_get h.matches m ≡ o →
     IfSome o (λ lane. IsOf h.about h.plan m lane)
 of_plan_from h m sound None is = tt
 of_plan_from h m sound (Some lane) is = matches_of_plan h sound m lane is

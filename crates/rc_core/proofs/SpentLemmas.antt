@@ -1,6 +1,6 @@
 -- Matches that are spent stay as they are.
 use Rattle.std.proofs.Common.{◌≡◌, ℕ, ◌⊎◌, inl, inr, List, slice_get, Result, Ok, Err, OnOk, OnErr, Option, Some, None, refl, sym, ap, ◌∙◌, subst}
-use Rattle.rc_match.specs.Lane.{Phase, ready, spent, Lane}
+use Rattle.rc_match.specs.Lane.{Phase, ready, spent, MatchLane}
 use Rattle.rc_match.specs.LaneLaws.{with_phase}
 use Rattle.rc_redraw.specs.Asking.{Key}
 use Rattle.rc_core.specs.House.{House, with_match}
@@ -11,27 +11,28 @@ use Rattle.rc_core.proofs.ListLemmas.{get_kept}
 use Rattle.rc_core.proofs.StoredLemmas.{not_spent}
 
 -- a step that lacked memory leaves a match spent that wasn't
-pub became_spent : {T E : Type 0} (r : Result T E) (lane lane' : Lane) (pick : Option ℕ) → lane.phase ≡ ready pick → OnErr r (lane'.phase ≡ spent) →
+pub became_spent : {T E : Type 0} (r : Result T E) (lane lane' : MatchLane) (pick : Option ℕ) → lane.phase ≡ ready pick → OnErr r (lane'.phase ≡ spent) →
     OnErr r (lane'.notes ≡ lane.notes) → OnErr r ((lane' ≡ lane) ⊎ BecomesSpent lane lane')
 became_spent (Ok x) lane lane' pick is gone kept = tt
 became_spent (Err x) lane lane' pick is gone kept =
     inr (record { before = λ e. let both : ready pick ≡ spent = sym is ∙ e in absurd (cc); behind = gone; notes = kept })
 
 -- where a match that is spent is written again as it is
-set_keeps : (h : House) (k : ℕ) (lane lane' : Lane) → slice_get h.matches k ≡ Some lane → (lane.phase ≡ spent → lane' ≡ lane) →
+set_keeps : (h : House) (k : ℕ) (lane lane' : MatchLane) → slice_get h.matches k ≡ Some lane → (lane.phase ≡ spent → lane' ≡ lane) →
     KeepsSpent h (with_match h k lane')
 set_keeps h k lane lane' there same m found is gone =
     get_kept h.matches k m lane' found is
     (λ e. let both : Some lane ≡ Some found = sym there ∙ ap (slice_get h.matches) (sym e) ∙ is in
     let one : lane ≡ found = cc in
-    same (ap (λ (l : Lane). l.phase) one ∙ gone) ∙ one)
+    same (ap (λ (l : MatchLane). l.phase) one ∙ gone) ∙ one)
 
-alone_keeps : (change : Lane → Lane) (h : House) (m : ℕ) (o : Option Lane) → slice_get h.matches m ≡ o →
-    ((lane : Lane) → lane.phase ≡ spent → change lane ≡ lane) → KeepsSpent h (alone change h m o)
+alone_keeps : (change : MatchLane → MatchLane) (h : House) (m : ℕ) (o : Option MatchLane) → slice_get h.matches m ≡ o →
+    ((lane : MatchLane) → lane.phase ≡ spent → change lane ≡ lane) → KeepsSpent h (alone change h m o)
 alone_keeps change h m None is same = λ k found there gone. there
 alone_keeps change h m (Some lane) is same = set_keeps h m lane (change lane) is (same lane)
 
-shared_keeps : (change : Phase → Phase × List Key) (h : House) (m : ℕ) (o : Option Lane) → slice_get h.matches m ≡ o →
+shared_keeps : (change : Phase → Phase × List Key) (h : House) (m : ℕ) (o : Option MatchLane) →
+    slice_get h.matches m ≡ o →
     (change spent).0 ≡ spent → KeepsSpent h (shared change h m o)
 shared_keeps change h m None is same k found there gone = there
 shared_keeps change h m (Some lane) is same k found there gone =

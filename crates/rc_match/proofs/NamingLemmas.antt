@@ -21,7 +21,7 @@ use Rattle.rc_text_model.specs.Naming.{marks_there}
 use Rattle.rc_text_model.proofs.GoesOn.{reached_append}
 use Rattle.rc_rules.specs.Machine.{menu_here}
 use Rattle.rc_redraw.specs.Need.{IsNeed}
-use Rattle.rc_match.specs.Lane.{Phase, ready, asks, missed, holds, over, spent, Lane, pick_here, noted, next_stop, need_at, notes_at, lane_at, stepped}
+use Rattle.rc_match.specs.Lane.{Phase, ready, asks, missed, holds, over, spent, MatchLane, pick_here, noted, next_stop, need_at, notes_at, lane_at, stepped}
 use Rattle.rc_match.specs.Sound.{IsSound}
 use Rattle.rc_match.specs.Chosen.{Chosen}
 use Rattle.rc_match.specs.Named.{noted_here, noted_in}
@@ -86,13 +86,13 @@ kept_picks about r (decide seat site) c k = refl
 kept_picks about r is_done c k = refl
 kept_picks about r is_limit c k = refl
 
-step_picks : (about : About) (plan : Plan) (m : ℕ) (pick : Option ℕ) (c : Config) (k : ℕ) (r : Record) (after : Lane) →
+step_picks : (about : About) (plan : Plan) (m : ℕ) (pick : Option ℕ) (c : Config) (k : ℕ) (r : Record) (after : MatchLane) →
     stepped about plan m (lane_on c k r (ready pick)) ≡ Some after → (noted about c r pick).picks ≡ after.notes.picks
 step_picks about plan m pick c k r after is =
     let r' = noted about c r pick in
     let found = mapped (lane_at about plan m r') (next_stop about (dealing_of (deal_at plan m).deal) k c pick) after is in
     let at = found.0 in
-    sym (kept_picks about r' at.stop at.config at.dealer) ∙ ap (λ (l : Lane). l.notes.picks) found.2
+    sym (kept_picks about r' at.stop at.config at.dealer) ∙ ap (λ (l : MatchLane). l.notes.picks) found.2
 
 module _ (about : About) (plan : Plan) (m : ℕ) (fits : about.shape ≡ shape_of about.sheet) (formed : IsWellFormed about.sheet) (sight : IsInSight about.sheet) where
   noted_chosen : (named : Bool) (phase : Phase) (c : Config) (k : ℕ) (r : Record) (item : ℕ) → IsSound about plan m (lane_on c k r phase) → Chosen phase (Some item) →
@@ -109,7 +109,7 @@ module _ (about : About) (plan : Plan) (m : ℕ) (fits : about.shape ≡ shape_o
   noted_chosen named spent c k r item sound is = absurd is
 
   -- behind a choice
-  pub noted_on : (named : Bool) (pick : Option ℕ) (c : Config) (k : ℕ) (r : Record) (after : Lane) (r' : Record) (item : ℕ) (before now : List (List Bound)) →
+  pub noted_on : (named : Bool) (pick : Option ℕ) (c : Config) (k : ℕ) (r : Record) (after : MatchLane) (r' : Record) (item : ℕ) (before now : List (List Bound)) →
       stepped about plan m (lane_on c k r (ready pick)) ≡ Some after → IsSound about plan m after → Chosen after.phase (Some item) → r' ≡ after.notes →
       before ≡ noted_in named about plan m (noted about c r pick).picks → now ≡ before ++ noted_here named about after.config (Some item) →
       now ≡ noted_in named about plan m (noted about after.config r' (Some item)).picks
@@ -124,7 +124,7 @@ none_noted true about c = refl
 none_noted false about c = refl
 
 -- at the end
-pub noted_end : (about : About) (plan : Plan) (m : ℕ) (named : Bool) (pick : Option ℕ) (c : Config) (k : ℕ) (r : Record) (after : Lane) (r' : Record)
+pub noted_end : (about : About) (plan : Plan) (m : ℕ) (named : Bool) (pick : Option ℕ) (c : Config) (k : ℕ) (r : Record) (after : MatchLane) (r' : Record)
     (before now : List (List Bound)) → stepped about plan m (lane_on c k r (ready pick)) ≡ Some after → r' ≡ after.notes →
     before ≡ noted_in named about plan m (noted about c r pick).picks → now ≡ before ++ noted_here named about after.config None →
     now ≡ noted_in named about plan m r'.picks

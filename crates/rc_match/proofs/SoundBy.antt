@@ -32,7 +32,7 @@ use Rattle.rc_play_model.proofs.PlayLemmas.{play_ends}
 use Rattle.rc_rules.specs.Machine.{menu_here}
 use Rattle.rc_rules.proofs.MenuLemmas.{menu_there}
 use Rattle.rc_redraw.specs.Need.{Need}
-use Rattle.rc_match.specs.Lane.{Phase, ready, spent, Lane, begun, pick_here, noted, next_stop, completed, lane_at, stepped}
+use Rattle.rc_match.specs.Lane.{Phase, ready, spent, MatchLane, begun, pick_here, noted, next_stop, completed, lane_at, stepped}
 use Rattle.rc_match.specs.Way.{HasNeed, IsOnWay}
 use Rattle.rc_match.specs.Sound.{Choices, AreItems, chooser_by, play_by, match_by, GoesWith, IsSoundBy}
 use Rattle.rc_match.specs.Asks.{decisions_in}
@@ -93,7 +93,7 @@ begun_sound about choices plan m =
     }
 
 -- one that becomes spent with its record is what it was, as far as it was played
-pub sound_spent : (about : About) (choices : Choices) (plan : Plan) (m : ℕ) (lane lane' : Lane) → lane'.phase ≡ spent → lane'.notes ≡ lane.notes →
+pub sound_spent : (about : About) (choices : Choices) (plan : Plan) (m : ℕ) (lane lane' : MatchLane) → lane'.phase ≡ spent → lane'.notes ≡ lane.notes →
     IsSoundBy about choices plan m lane → IsSoundBy about choices plan m lane'
 sound_spent about choices plan m lane lane' gone kept sound =
     record {
@@ -221,7 +221,7 @@ module _ (about : About) (choices : Choices) (items : AreItems about choices) (p
       let heads = noted_heads about plan m pick c r sound.way.number sound.way.deal sound.way.seats in
       sound_there (noted about c r pick) sound.play sound.played (noted_front pick c k r sound) heads.0 heads.1 heads.2 at.stop at.config at.dealer there way
 
-  pub sound_step : (pick : Option ℕ) (c : Config) (k : ℕ) (r : Record) (lane : Lane) → IsSoundBy about choices plan m (lane_on c k r (ready pick)) →
+  pub sound_step : (pick : Option ℕ) (c : Config) (k : ℕ) (r : Record) (lane : MatchLane) → IsSoundBy about choices plan m (lane_on c k r (ready pick)) →
       stepped about plan m (lane_on c k r (ready pick)) ≡ Some lane → IsOnWay about plan m lane → IsSoundBy about choices plan m lane
   sound_step pick c k r lane sound is way =
       let found = mapped (lane_at about plan m (noted about c r pick)) (next_stop about (dealing_of (deal_at plan m).deal) k c pick) lane is in

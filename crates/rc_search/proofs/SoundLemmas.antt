@@ -11,7 +11,7 @@ use Rattle.rc_play_model.specs.Plan.{Plan, deal_at}
 use Rattle.rc_play_model.specs.Keyed.{dealing_of}
 use Rattle.rc_play_model.proofs.FollowLemmas.{mapped}
 use Rattle.rc_redraw.specs.Need.{Need}
-use Rattle.rc_match.specs.Lane.{Phase, ready, asks, missed, holds, over, spent, Lane, noted, next_stop, lane_at, stepped}
+use Rattle.rc_match.specs.Lane.{Phase, ready, asks, missed, holds, over, spent, MatchLane, noted, next_stop, lane_at, stepped}
 use Rattle.rc_match.specs.Way.{IsFresh, IsOnWay}
 use Rattle.rc_match.specs.Sound.{Choices, AreItems, IsSoundBy}
 use Rattle.rc_match.specs.Asks.{decisions_in}
@@ -77,11 +77,11 @@ module _ (about : About) (rival : Rival) (plan : Plan) (m : ℕ) where
   asked_there r is_done c k way = tt
   asked_there r is_limit c k way = tt
 
-  pub asked_behind : (pick : Option ℕ) (c : Config) (k : ℕ) (r : Record) (lane : Lane) → stepped about plan m (lane_on c k r (ready pick)) ≡ Some lane →
+  pub asked_behind : (pick : Option ℕ) (c : Config) (k : ℕ) (r : Record) (lane : MatchLane) → stepped about plan m (lane_on c k r (ready pick)) ≡ Some lane →
       IsOnWay about plan m lane → IsAsked about plan m lane.phase
   asked_behind pick c k r lane is way =
       let found = mapped (lane_at about plan m (noted about c r pick)) (next_stop about (dealing_of (deal_at plan m).deal) k c pick) lane is in
-      subst (λ (l : Lane). IsAsked about plan m l.phase) found.2
+      subst (λ (l : MatchLane). IsAsked about plan m l.phase) found.2
       (asked_there (noted about c r pick) found.0.stop found.0.config found.0.dealer (subst (IsOnWay about plan m) (sym found.2) way))
 
 -- the machine of a match that asks isn't spent

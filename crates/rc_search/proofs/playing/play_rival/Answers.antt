@@ -2,7 +2,7 @@ use Rattle.std.proofs.Common.{◌≡◌, Some, None, sym, ap, ◌∙◌, subst, 
 use Rattle.std.proofs.lemmas.List.{length-map}
 use Rattle.rc_rules.specs.Plan.{plan_seen}
 use Rattle.rc_rules.specs.Record.{score_seen, record_seen}
-use Rattle.rc_match.specs.Lane.{Lane, ready, lane_seen, phase_seen, stepped}
+use Rattle.rc_match.specs.Lane.{MatchLane, ready, lane_seen, phase_seen, stepped}
 use Rattle.rc_match.specs.Sound.{IsSoundBy}
 use Rattle.rc_match.proofs.PlayLemmas.{decided_in, decided_behind, each_scored}
 use Rattle.rc_match.proofs.SoundBy.{begun_sound, sound_step}
@@ -121,7 +121,7 @@ loop-lane-init g c =
     record {
       own = c.in_ok-lane.ensures.own;
       sound = subst (IsSoundBy about (choices about rival plan m) plan m) (sym c.in_ok-lane.ensures.is) (begun_sound about (choices about rival plan m) plan m);
-      ready = (None, ap (λ (lane : Lane). lane.phase) c.in_ok-lane.ensures.is);
+      ready = (None, ap (λ (lane : MatchLane). lane.phase) c.in_ok-lane.ensures.is);
       same = λ a served. served;
     }
 
