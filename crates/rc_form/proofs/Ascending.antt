@@ -1,6 +1,6 @@
 -- The tokens of a text stand in the order of their offsets.
 use Rattle.std.proofs.Common.{ℕ, ◌+◌, ◌≤◌, Bool, true, false, cond, eqb, ◌||◌, List, [], ◌∷◌, ◌++◌, length, arith}
-use Rattle.rc_model.specs.Token.{Token, opening, closing, atom, odd, offset_of, Place, between, in_atom, in_comment, is_part, is_blank, atom_front, token_with, token_at, tokens_from, place_behind}
+use Rattle.rc_model.specs.Token.{Token, opening, closing, atom, odd, offset_of, LexerState, between, in_atom, in_comment, is_part, is_blank, atom_front, token_with, token_at, tokens_from, state_behind}
 
 -- the offsets rise from the first number on, and stay below the second
 abbrev pub Ascends : ℕ → ℕ → List Token → Type 0
@@ -38,7 +38,8 @@ Ascends-token_with at high b bytes tokens behind =
     (Ascends-cond at high (is_blank b || eqb b 59) [] (odd at ∷ []) tokens none (here, behind))))
 
 -- the same in any place
-Ascends-token_at : (place : Place) (at high b : ℕ) (bytes : List ℕ) (tokens : List Token) → Ascends (at + 1) high tokens
+Ascends-token_at : (place : LexerState) (at high b : ℕ) (bytes : List ℕ) (tokens : List Token) →
+    Ascends (at + 1) high tokens
     → Ascends at high (token_at place at b bytes ++ tokens)
 Ascends-token_at in_comment at high b bytes tokens behind = Ascends-lower at (at + 1) high tokens (omega arith) behind
 Ascends-token_at between at high b bytes tokens behind = Ascends-token_with at high b bytes tokens behind
@@ -46,8 +47,8 @@ Ascends-token_at in_atom at high b bytes tokens behind =
     Ascends-cond at high (is_part b) [] (token_with at b bytes) tokens (Ascends-lower at (at + 1) high tokens (omega arith) behind) (Ascends-token_with at high b bytes tokens behind)
 
 -- tokens begin where their bytes stand
-pub Ascends-tokens_from : (place : Place) (at high : ℕ) (bytes : List ℕ) → at + length bytes ≤ high
+pub Ascends-tokens_from : (place : LexerState) (at high : ℕ) (bytes : List ℕ) → at + length bytes ≤ high
     → Ascends at high (tokens_from place at bytes)
 Ascends-tokens_from place at high [] room = omega arith
 Ascends-tokens_from place at high (b ∷ bytes) room =
-    Ascends-token_at place at high b bytes (tokens_from (place_behind place b) (at + 1) bytes) (Ascends-tokens_from (place_behind place b) (at + 1) high bytes (omega arith))
+    Ascends-token_at place at high b bytes (tokens_from (state_behind place b) (at + 1) bytes) (Ascends-tokens_from (state_behind place b) (at + 1) high bytes (omega arith))

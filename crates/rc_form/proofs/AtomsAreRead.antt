@@ -2,7 +2,7 @@
 use Rattle.std.proofs.Common.{◌≡◌, ℕ, ◌+◌, ◌-◌, ◌≤◌, Bool, true, false, cond, eqb, IsTrue, ◌||◌, List, [], ◌∷◌, ◌++◌, length, refl, subst, arith}
 use Rattle.std.specs.List.{All, list_all, flat_map}
 use Rattle.std.proofs.lemmas.List.Elements.{All-nil, All-cons}
-use Rattle.rc_model.specs.Token.{Token, opening, closing, atom, odd, Place, between, in_atom, in_comment, is_part, is_blank, atom_front, token_with, token_at, tokens_from, place_behind}
+use Rattle.rc_model.specs.Token.{Token, opening, closing, atom, odd, LexerState, between, in_atom, in_comment, is_part, is_blank, atom_front, token_with, token_at, tokens_from, state_behind}
 use Rattle.rc_model.specs.Tree.{Tree, word, list, Trees, nil, cons, spelling, spellings, IsSound, AreSound}
 use Rattle.rc_model.specs.Spelled.{Spelled, IsTopList, AreTopLists}
 use Rattle.rc_form.specs.Form.{tree_of, trees_of}
@@ -40,17 +40,17 @@ AtomsAreRuns-token_with at b bytes tokens behind =
     (AtomsAreRuns-cond (is_blank b || eqb b 59) [] (odd at ∷ []) tokens (λ _. behind) behind)))
 
 -- so is each atom at any place
-AtomsAreRuns-token_at : (place : Place) (at b : ℕ) (bytes : List ℕ) (tokens : List Token) → AtomsAreRuns tokens → AtomsAreRuns (token_at place at b bytes ++ tokens)
+AtomsAreRuns-token_at : (place : LexerState) (at b : ℕ) (bytes : List ℕ) (tokens : List Token) → AtomsAreRuns tokens → AtomsAreRuns (token_at place at b bytes ++ tokens)
 AtomsAreRuns-token_at in_comment at b bytes tokens behind = behind
 AtomsAreRuns-token_at between at b bytes tokens behind = AtomsAreRuns-token_with at b bytes tokens behind
 AtomsAreRuns-token_at in_atom at b bytes tokens behind =
     AtomsAreRuns-cond (is_part b) [] (token_with at b bytes) tokens (λ _. behind) (AtomsAreRuns-token_with at b bytes tokens behind)
 
 -- each atom of a text is such a run
-AtomsAreRuns-tokens_from : (place : Place) (at : ℕ) (bytes : List ℕ) → AtomsAreRuns (tokens_from place at bytes)
+AtomsAreRuns-tokens_from : (place : LexerState) (at : ℕ) (bytes : List ℕ) → AtomsAreRuns (tokens_from place at bytes)
 AtomsAreRuns-tokens_from place at [] = tt
 AtomsAreRuns-tokens_from place at (b ∷ bytes) =
-    AtomsAreRuns-token_at place at b bytes (tokens_from (place_behind place b) (at + 1) bytes) (AtomsAreRuns-tokens_from (place_behind place b) (at + 1) bytes)
+    AtomsAreRuns-token_at place at b bytes (tokens_from (state_behind place b) (at + 1) bytes) (AtomsAreRuns-tokens_from (state_behind place b) (at + 1) bytes)
 
 -- what holds of all the tokens holds of the first and of the last of them
 AtomsAreRuns-parts : (front back : List Token) → AtomsAreRuns (front ++ back) → AtomsAreRuns front × AtomsAreRuns back

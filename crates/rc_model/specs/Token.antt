@@ -29,16 +29,16 @@ atom_front [] = []
 atom_front (b ∷ bytes) = if is_part b then b ∷ atom_front bytes else []
 
 -- where a byte stands: between tokens, in an atom behind its first byte, or in a comment
-pub data Place : Type 0 where
-  between : Place
-  in_atom : Place
-  in_comment : Place
+pub data LexerState : Type 0 where
+  between : LexerState
+  in_atom : LexerState
+  in_comment : LexerState
 
 -- where the byte behind b stands: a comment opens with `;` and runs to the next LF
-abbrev pub place_behind : Place → ℕ → Place
-place_behind in_comment b = if b == 10 then between else in_comment
-place_behind between b = if is_part b then in_atom else (if b == 59 then in_comment else between)
-place_behind in_atom b = if is_part b then in_atom else (if b == 59 then in_comment else between)
+abbrev pub state_behind : LexerState → ℕ → LexerState
+state_behind in_comment b = if b == 10 then between else in_comment
+state_behind between b = if is_part b then in_atom else (if b == 59 then in_comment else between)
+state_behind in_atom b = if is_part b then in_atom else (if b == 59 then in_comment else between)
 
 -- the token that begins with b, where b stands behind no atom and in no comment
 abbrev pub token_with : ℕ → ℕ → List ℕ → List Token
@@ -49,15 +49,15 @@ token_with offset b bytes =
     else (if is_blank b || b == 59 then [] else odd offset ∷ [])))
 
 -- the token that begins with b, if one does
-abbrev pub token_at : Place → ℕ → ℕ → List ℕ → List Token
+abbrev pub token_at : LexerState → ℕ → ℕ → List ℕ → List Token
 token_at in_comment offset b bytes = []
 token_at between offset b bytes = token_with offset b bytes
 token_at in_atom offset b bytes = if is_part b then [] else token_with offset b bytes
 
 -- the tokens of bytes that begin at this offset and in this place
-abbrev pub tokens_from : Place → ℕ → List ℕ → List Token
+abbrev pub tokens_from : LexerState → ℕ → List ℕ → List Token
 tokens_from place offset [] = []
-tokens_from place offset (b ∷ bytes) = token_at place offset b bytes ++ tokens_from (place_behind place b) (offset + 1) bytes
+tokens_from place offset (b ∷ bytes) = token_at place offset b bytes ++ tokens_from (state_behind place b) (offset + 1) bytes
 
 -- the tokens of a text
 abbrev pub tokens : List ℕ → List Token

@@ -1,6 +1,6 @@
 -- A text spells the same with an LF behind it.
 use Rattle.std.proofs.Common.{◌≡◌, ℕ, ◌+◌, ◌||◌, ◌==◌, List, [], ◌∷◌, ◌++◌, if◌then◌else◌, length, refl, sym, ap, ap₂, ◌∙◌}
-use Rattle.rc_model.specs.Token.{opening, closing, atom, odd, is_blank, is_part, atom_front, Place, between, in_atom, in_comment, place_behind, token_with, token_at, tokens_from}
+use Rattle.rc_model.specs.Token.{opening, closing, atom, odd, is_blank, is_part, atom_front, LexerState, between, in_atom, in_comment, state_behind, token_with, token_at, tokens_from}
 use Rattle.rc_model.specs.Tree.{Tree}
 use Rattle.rc_model.specs.Spelled.{next_offset, Spelled}
 use Rattle.rc_model.specs.Transcript.{line}
@@ -18,17 +18,19 @@ same_with at b text =
     else (if b == 41 then closing at ∷ [] else (if is_blank b || b == 59 then [] else odd at ∷ []))))
     (same_front text)
 
-same_token : (place : Place) (at b : ℕ) (text : List ℕ) → token_at place at b (line text) ≡ token_at place at b text
+same_token : (place : LexerState) (at b : ℕ) (text : List ℕ) →
+    token_at place at b (line text) ≡ token_at place at b text
 same_token between at b text = same_with at b text
 same_token in_atom at b text = ap (λ found. if is_part b then [] else found) (same_with at b text)
 same_token in_comment at b text = refl
 
 -- all tokens
-same_tokens : (place : Place) (at : ℕ) (text : List ℕ) → tokens_from place at (line text) ≡ tokens_from place at text
+same_tokens : (place : LexerState) (at : ℕ) (text : List ℕ) →
+    tokens_from place at (line text) ≡ tokens_from place at text
 same_tokens between at [] = refl
 same_tokens in_atom at [] = refl
 same_tokens in_comment at [] = refl
-same_tokens place at (b ∷ text) = ap₂ ◌++◌ (same_token place at b text) (same_tokens (place_behind place b) (at + 1) text)
+same_tokens place at (b ∷ text) = ap₂ ◌++◌ (same_token place at b text) (same_tokens (state_behind place b) (at + 1) text)
 
 pub with_feed : (text : List ℕ) (want : ℕ) (forms : List Tree) (rest : ℕ) → Spelled text want forms rest
     → (rest : ℕ) × Spelled (line text) want forms rest

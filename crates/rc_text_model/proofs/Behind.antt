@@ -2,7 +2,7 @@
 use Rattle.std.proofs.Common.{◌≡◌, ℕ, suc, ◌+◌, ◌<◌, Bool, true, false, ◌||◌, ◌==◌, if◌then◌else◌, List, [], ◌∷◌, ◌++◌, inl, flat_map, length, drop, refl, sym, ap, ap₂, ◌∙◌, subst, append_assoc, append-nil, arith}
 use Rattle.std.specs.List.{AllByRecursion}
 use Rattle.std.proofs.lemmas.Bool.{cond-true}
-use Rattle.rc_model.specs.Token.{Token, opening, closing, atom, odd, offset_of, is_blank, is_part, atom_front, Place, between, in_atom, in_comment, place_behind, token_with, token_at, tokens_from, tokens}
+use Rattle.rc_model.specs.Token.{Token, opening, closing, atom, odd, offset_of, is_blank, is_part, atom_front, LexerState, between, in_atom, in_comment, state_behind, token_with, token_at, tokens_from, tokens}
 use Rattle.rc_model.specs.Tree.{Tree, spelling}
 use Rattle.rc_model.specs.Spelled.{next_offset, Spelled}
 use Rattle.rc_deck.proofs.EachLemmas.{append_each}
@@ -20,19 +20,19 @@ same_with at b text more =
     else (if b == 41 then closing at ∷ [] else (if is_blank b || b == 59 then [] else odd at ∷ []))))
     (same_front text more)
 
-same_token : (place : Place) (at b : ℕ) (text more : List ℕ) → token_at place at b (text ++ 10 ∷ more) ≡ token_at place at b text
+same_token : (place : LexerState) (at b : ℕ) (text more : List ℕ) → token_at place at b (text ++ 10 ∷ more) ≡ token_at place at b text
 same_token between at b text more = same_with at b text more
 same_token in_atom at b text more = ap (λ found. if is_part b then [] else found) (same_with at b text more)
 same_token in_comment at b text more = refl
 
 -- whatever a text ends with, behind the LF tokens begin anew
-tokens_behind : (place : Place) (at : ℕ) (text more : List ℕ) →
+tokens_behind : (place : LexerState) (at : ℕ) (text more : List ℕ) →
     tokens_from place at (text ++ 10 ∷ more) ≡ tokens_from place at text ++ tokens_from between (at + length text + 1) more
 tokens_behind between at [] more = let same : at + 1 ≡ at + 0 + 1 = omega arith in ap (λ k. tokens_from between k more) same
 tokens_behind in_atom at [] more = let same : at + 1 ≡ at + 0 + 1 = omega arith in ap (λ k. tokens_from between k more) same
 tokens_behind in_comment at [] more = let same : at + 1 ≡ at + 0 + 1 = omega arith in ap (λ k. tokens_from between k more) same
 tokens_behind place at (b ∷ text) more =
-    let next = place_behind place b in
+    let next = state_behind place b in
     let same : at + 1 + length text + 1 ≡ at + length (b ∷ text) + 1 = omega arith in
     ap₂ ◌++◌ (same_token place at b text more)
     (tokens_behind next (at + 1) text more ∙ ap (λ k. tokens_from next (at + 1) text ++ tokens_from between k more) same)
@@ -58,19 +58,20 @@ module _ (at end : ℕ) (less : at < end) where
   unless_part true found all = tt
   unless_part false found all = all
 
-  token_before : (place : Place) (b : ℕ) (bytes : List ℕ) → AllByRecursion (IsBefore end) (token_at place at b bytes)
+  token_before : (place : LexerState) (b : ℕ) (bytes : List ℕ) →
+      AllByRecursion (IsBefore end) (token_at place at b bytes)
   token_before in_comment b bytes = tt
   token_before between b bytes = by_tests (is_part b) (b == 40) (b == 41) (is_blank b || b == 59) (b ∷ atom_front bytes)
   token_before in_atom b bytes =
       unless_part (is_part b) (token_with at b bytes)
       (by_tests (is_part b) (b == 40) (b == 41) (is_blank b || b == 59) (b ∷ atom_front bytes))
 
-tokens_before : (place : Place) (at end : ℕ) (text : List ℕ) → at + length text ≡ end → AllByRecursion (IsBefore end) (tokens_from place at text)
+tokens_before : (place : LexerState) (at end : ℕ) (text : List ℕ) → at + length text ≡ end → AllByRecursion (IsBefore end) (tokens_from place at text)
 tokens_before place at end [] is = tt
 tokens_before place at end (b ∷ text) is =
-    append_each (IsBefore end) (token_at place at b text) (tokens_from (place_behind place b) (at + 1) text)
+    append_each (IsBefore end) (token_at place at b text) (tokens_from (state_behind place b) (at + 1) text)
     (token_before at end (omega (arith, is)) place b text)
-    (tokens_before (place_behind place b) (at + 1) end text (omega (arith, is)))
+    (tokens_before (state_behind place b) (at + 1) end text (omega (arith, is)))
 
 back_each : {A : Type 0} (P : A → Type 0) (xs ys : List A) → AllByRecursion P (xs ++ ys) → AllByRecursion P ys
 back_each P [] ys all = all
@@ -85,7 +86,7 @@ none_left (token ∷ later) end all is = let less = all.0 in absurd (omega (arit
 
 first_offset : (at end b : ℕ) (bytes : List ℕ) → is_part b ≡ true → at ≡ next_offset (tokens_from between at (b ∷ bytes)) end
 first_offset at end b bytes is =
-    ap (λ found. next_offset (found ++ tokens_from (place_behind between b) (at + 1) bytes) end) (sym (cond-true (is_part b) _ _ is))
+    ap (λ found. next_offset (found ++ tokens_from (state_behind between b) (at + 1) bytes) end) (sym (cond-true (is_part b) _ _ is))
 
 pub spelled_behind : (source : List ℕ) (want : ℕ) (forms : List Tree) (b : ℕ) (bytes : List ℕ) → Spelled source want forms (length source) →
     length forms ≡ want → is_part b ≡ true → Spelled (source ++ 10 ∷ b ∷ bytes) want forms (length source + 1)
