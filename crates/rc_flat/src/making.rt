@@ -18,7 +18,7 @@ use rc_code::{Code, sites_are_placed, standing_code_implements};
 use rc_deck::Memory;
 use rc_flow::Checked;
 use rc_rules::{About, Control, Items};
-use rc_stand::{Position, State, place_of, site_of};
+use rc_stand::{ProgramCounter, State, place_of, site_of};
 use rc_state::new_control;
 use rc_table::{Shape, Table};
 use rc_value::Current;
@@ -114,7 +114,7 @@ impl FlatMachine {
             state: State {
                 board,
                 control,
-                place: Position::start(),
+                place: ProgramCounter::start(),
                 menu,
                 // no stage is open
                 current: Current { player: 0, team: 0 },
@@ -185,7 +185,7 @@ impl FlatMachine {
         about: About,
         board: Board,
         control: Control,
-        place: Position,
+        place: ProgramCounter,
         menu: Items,
     ) -> FlatMachine
         requires stands { StandsFor about.sheet (code_seen code.value) }

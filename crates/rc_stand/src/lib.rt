@@ -11,7 +11,7 @@ mod state;
 mod there;
 
 pub use marks::Mark;
-pub use place::Position;
+pub use place::ProgramCounter;
 pub use site::{place_of, site_of};
 pub use stand::{Stand, write_control, write_menu};
 pub use state::State;

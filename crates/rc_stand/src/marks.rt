@@ -8,7 +8,7 @@ ghost use Rattle.rc_board.specs.Undo.{GoesBack, tables};
 ghost use Rattle.rc_stand.specs.State.{flat_of};
 ghost use Rattle.rc_stand.specs.Moments.{flat_marked};
 
-use crate::place::Position;
+use crate::place::ProgramCounter;
 use crate::state::State;
 use rc_rules::Control;
 
@@ -16,7 +16,7 @@ use rc_rules::Control;
 #[derive(Drop)]
 pub struct Mark {
     control: Control,
-    place: Position,
+    place: ProgramCounter,
     edits: usize,
 }
 

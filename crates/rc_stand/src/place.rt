@@ -1,4 +1,4 @@
-//! A place in the code: which instruction is next.
+//! The program counter: which instruction is next.
 ghost use Rattle.std.specs.Prelude.{◌≡◌, ◌<◌, [], false, length};
 ghost use Rattle.rc_stand.specs.Places.{went_to, at_round_of, opened_at, but_last, closed_to, Innermost};
 
@@ -11,13 +11,13 @@ pub type Outer = ArrayVec<usize, 64>;
 /// The places of the stages whose bodies run, from outside to inside, the instruction that is next, and whether the
 /// innermost of those stages is at a round instead.
 #[derive(Debug, Drop)]
-pub struct Position {
+pub struct ProgramCounter {
     outer: Outer,
     next: usize,
     at_round: bool,
 }
 
-impl Model for Position {
+impl Model for ProgramCounter {
     ghost use Rattle.std.specs.Coded.{codes};
     ghost use Rattle.rc_play_model.specs.Path.{Path};
 
@@ -28,12 +28,12 @@ impl Model for Position {
     ghost view = { λ p. record { outer = p.outer.items; next = p.next; at_round = p.at_round } };
 }
 
-impl Position {
+impl ProgramCounter {
     /// This instruction, within the stages at these places.
-    pub fn to(outer: Outer, next: usize) -> Position
+    pub fn to(outer: Outer, next: usize) -> ProgramCounter
         ensures { result ≡ record { outer = outer.items; next = next; at_round = false } }
     {
-        Position {
+        ProgramCounter {
             outer,
             next,
             at_round: false,
@@ -41,19 +41,19 @@ impl Position {
     }
 
     /// The first instruction.
-    pub fn start() -> Position
+    pub fn start() -> ProgramCounter
         ensures { result ≡ record { outer = []; next = 0; at_round = false } }
     {
-        Position::to(ArrayVec::new(), 0)
+        ProgramCounter::to(ArrayVec::new(), 0)
     }
 
     /// The same place once more.
-    pub fn copy(&self) -> Position
+    pub fn copy(&self) -> ProgramCounter
         ensures { result ≡ self.now }
     {
         let mut outer = ArrayVec::new();
         let _fits = outer.try_extend_from_slice(self.outer.as_slice());
-        Position {
+        ProgramCounter {
             outer,
             next: self.next,
             at_round: self.at_round,
@@ -61,7 +61,7 @@ impl Position {
     }
 
     /// Stands at another place.
-    pub fn set_to(&mut self, other: &Position)
+    pub fn set_to(&mut self, other: &ProgramCounter)
         ensures { self.new ≡ other.now }
     {
         write_list(&other.outer, &mut self.outer);

@@ -4,7 +4,7 @@ ghost use Rattle.rc_code.specs.Instruction.{SitePlace as PurePlace};
 ghost use Rattle.rc_code.specs.Seen.{code_seen, place_seen};
 ghost use Rattle.rc_code.specs.Implements.{path_to};
 
-use crate::place::Position;
+use crate::place::ProgramCounter;
 use arrayvec::ArrayVec;
 use rc_code::{Code, SitePlace};
 use rc_rules::Control;
@@ -21,7 +21,7 @@ pub fn site_of(control: &Control) -> u8
 }
 
 /// The place of the choice with this site.
-pub fn place_of(code: &Code, site: u8) -> Position
+pub fn place_of(code: &Code, site: u8) -> ProgramCounter
     requires { (at : PurePlace) × (slice_get (code_seen code.now).sites site ≡ Some at) × (length at.outer ≤ 63) }
     ensures { (at : PurePlace) × (slice_get (code_seen code.now).sites site ≡ Some at) × (result ≡ path_to at) }
 {
@@ -31,11 +31,11 @@ pub fn place_of(code: &Code, site: u8) -> Position
     }
 }
 
-fn place_to(at: &SitePlace) -> Position
+fn place_to(at: &SitePlace) -> ProgramCounter
     requires { length at.now.outer.items ≤ 63 }
     ensures { result ≡ path_to (place_seen at.now) }
 {
     let mut outer = ArrayVec::new();
     let _fits = outer.try_extend_from_slice(at.outer.as_slice());
-    Position::to(outer, at.place)
+    ProgramCounter::to(outer, at.place)
 }

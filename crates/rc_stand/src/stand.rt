@@ -9,7 +9,7 @@ ghost use Rattle.rc_board.specs.Undo.{away_at, gone_home, home_at};
 ghost use Rattle.rc_stand.specs.Flat.{flat_from};
 ghost use Rattle.rc_stand.specs.State.{flat_of};
 
-use crate::place::{Position, write_list};
+use crate::place::{ProgramCounter, write_list};
 use crate::state::State;
 use rc_rules::{About, Control, Items};
 use rc_table::Table;
@@ -18,7 +18,7 @@ use rc_table::Table;
 #[derive(Drop)]
 pub struct Stand {
     pub control: Control,
-    pub place: Position,
+    pub place: ProgramCounter,
     pub menu: Items,
 }
 

@@ -7,7 +7,7 @@ ghost use Rattle.rc_play_model.specs.Scores.{scores_of};
 ghost use Rattle.rc_rules.specs.Control.{frames_seen, control_seen};
 ghost use Rattle.rc_value.specs.Current.{IsCurrent};
 
-use crate::place::Position;
+use crate::place::ProgramCounter;
 use rc_asked::CompiledTest;
 use rc_board::Board;
 use rc_rules::{About, Control, Items, Scores};
@@ -20,7 +20,7 @@ use rc_value::{Current, current_of};
 pub struct State {
     pub board: Board,
     pub control: Control,
-    pub place: Position,
+    pub place: ProgramCounter,
     pub menu: Items,
     pub current: Current,
 }
