@@ -66,7 +66,7 @@ pub fn prepare(alloc: Global, task: Task, source: &[u8]) -> Result<Prepared, Mem
     // It is the command's answer to these bytes, or the sheet and the plan whose matches are to be played for it.
     ensures { IfOk result (IsPrepared task source.now) }
 {
-    match read_forms(alloc, source, task.wanted()) {
+    match read_forms(alloc, source, task.wanted_lists()) {
         Ok(forms) => prepare_forms(alloc, task, source, &forms),
         Err(FormFail::Fault(form_fault)) => Ok(Prepared::Answered(fault_of(form_fault))),
         Err(FormFail::Memory) => Err(Memory),
@@ -100,7 +100,7 @@ fn prepare_forms(
     ensures { IfOk result (IsPrepared task source.now) }
 {
     let Some(form) = forms.list.first() else {
-        return Ok(Prepared::Answered(missing(forms)));
+        return Ok(Prepared::Answered(answer_without_sheet(forms)));
     };
     match accept(alloc, form) {
         Ok(checked) => prepare_sheet(alloc, task, source, forms, checked),
@@ -112,7 +112,7 @@ fn prepare_forms(
 }
 
 /// The answer where the sheet is missing.
-fn missing(forms: &Forms) -> Answer
+fn answer_without_sheet(forms: &Forms) -> Answer
     requires { forms.now.rest ≤ longest_text }
     ensures { result ≡ stored.Refused (refusal.Sheet Shape forms.now.rest) }
 {

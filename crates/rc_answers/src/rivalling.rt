@@ -27,7 +27,7 @@ pub(crate) fn rivalled_answer(
 {
     let Game { checked, plan } = game;
     if (rival.strategy as usize) < plan.strategies.len() {
-        let text = rivals_of(alloc, checked, plan, &searching(rival))?;
+        let text = rivals_of(alloc, checked, plan, &search_of(rival))?;
         Ok(Answer::Text(text, Note::Nothing))
     } else {
         Ok(Answer::Refused(Refusal::Absent))
@@ -35,7 +35,7 @@ pub(crate) fn rivalled_answer(
 }
 
 /// The search that words name.
-fn searching(rival: rc_command::Rival) -> rc_rivals::Rival
+fn search_of(rival: rc_command::Rival) -> rc_rivals::Rival
     ensures { rival_seen result ≡ searching rival }
 {
     rc_rivals::Rival {

@@ -28,7 +28,7 @@ pub enum Task {
 
 impl Task {
     /// How many lists it reads from the front of its source.
-    pub fn wanted(self) -> usize
+    pub fn wanted_lists(self) -> usize
         ensures { result ≡ wanted self }
     {
         match self {

@@ -8,7 +8,7 @@ use crate::answer::{Answer, Game};
 use crate::note::Note;
 use crate::refusal::Refusal;
 use rc_deck::Memory;
-use rc_watch::watched;
+use rc_watch::watched_log;
 use std::alloc::Global;
 
 /// The log of a seat in a match of a game, if there are such. Memory may run out.
@@ -25,7 +25,7 @@ pub(crate) fn watched_answer(
     let Game { checked, plan } = game;
     let players = checked.sheet().players;
     if seat < players && (number as usize) < plan.matches.len() {
-        let log = watched(alloc, checked, plan, seat, number)?;
+        let log = watched_log(alloc, checked, plan, seat, number)?;
         Ok(Answer::Text(log, Note::Nothing))
     } else {
         Ok(Answer::Refused(Refusal::Absent))

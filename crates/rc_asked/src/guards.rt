@@ -256,7 +256,7 @@ fn condition_of(test: &Test) -> Option<Condition>
     }
 }
 
-fn sensed(sense: Sense, test: &Test) -> Option<GuardPart>
+fn part_in_sense(sense: Sense, test: &Test) -> Option<GuardPart>
     ensures is { IfSome result (IsPartOf (in_sense sense (test_seen test.now))) }
     ensures found { is_some result ≡ is_condition (test_seen test.now) }
 {
@@ -271,9 +271,9 @@ fn part_of(test: &Test) -> Option<GuardPart>
     ensures found { is_some result ≡ is_part (test_seen test.now) }
 {
     match test {
-        Test::Ne(inner) => sensed(Sense::Ne, inner),
-        Test::Not(inner) => sensed(Sense::Not, inner),
-        _ => sensed(Sense::Plain, test),
+        Test::Ne(inner) => part_in_sense(Sense::Ne, inner),
+        Test::Not(inner) => part_in_sense(Sense::Not, inner),
+        _ => part_in_sense(Sense::Plain, test),
     }
 }
 
@@ -296,7 +296,7 @@ fn parts_of(tests: &Vec<Test>) -> Option<FewParts>
 }
 
 // The guard of a location's cards that joins these tests.
-fn joined(loc: Loc, any: bool, tests: &Vec<Test>) -> Option<Guard>
+fn joined_guard(loc: Loc, any: bool, tests: &Vec<Test>) -> Option<Guard>
     requires { IsFixedLoc (loc_seen loc) }
     ensures place { IfSome result (λ guard. guard.loc ≡ loc) }
     ensures same { IfSome result (λ guard. guard_meant guard
@@ -319,8 +319,8 @@ fn guard_by(loc: Loc, test: &Test) -> Option<Guard>
     ensures found { is_some result ≡ is_in_parts (test_seen test.now) }
 {
     match test {
-        Test::Or(tests) => joined(loc, true, tests),
-        Test::And(tests) => joined(loc, false, tests),
+        Test::Or(tests) => joined_guard(loc, true, tests),
+        Test::And(tests) => joined_guard(loc, false, tests),
         _ => None,
     }
 }

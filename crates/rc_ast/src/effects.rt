@@ -64,7 +64,7 @@ impl Effect {
 
     /// The effects, so many times.
     #[tactic(auto, using(crate::proofs::ViewLemmas::repeat_seen))]
-    pub fn repeated(count: IntExpr, effects: Vec<Effect>) -> Effect
+    pub fn repeat(count: IntExpr, effects: Vec<Effect>) -> Effect
         ensures { effect_seen result ≡ repeat (int_seen count) (effects_seen effects.items) }
     {
         Effect::Repeat(count, effects)

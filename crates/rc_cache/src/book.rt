@@ -13,7 +13,7 @@ ghost use Rattle.rc_cache.specs.Kept.{about_in};
 ghost use Rattle.rc_cache.specs.Fresh.{HasNames, HasParts};
 
 use crate::cache::{Cache, bring, find, put};
-use crate::calls::{Call, copied, is_hit, write};
+use crate::calls::{Call, copy_key, is_hit, write};
 use crate::lanes::{Lane, Sums};
 use crate::mark::HashedAsk;
 use crate::naming::{BookNaming, Fresh, HitsOf, KeepsOf, LooksOf};
@@ -109,7 +109,7 @@ impl<N: BookNaming> Book<N> {
             ≡ counted lane.old (looked (key_seen key.now) (is_hit_of reply))) }
         ensures lacking { OnErr result ((self.new ≡ self.old) × (lane.new ≡ lane.old)) }
     {
-        let known = copied(key)?;
+        let known = copy_key(key)?;
         let mark = HashedAsk::of(key)?;
         let reply = find(alloc, &self.cache, &mark)?;
         self.journal.reserve(1)?;
@@ -135,7 +135,7 @@ impl<N: BookNaming> Book<N> {
         ensures lane { OnOk result (lane.new ≡ counted lane.old (kept entry)) }
         ensures lacking { OnErr result ((self.new ≡ self.old) × (lane.new ≡ lane.old)) }
     {
-        let known = copied(entry.key())?;
+        let known = copy_key(entry.key())?;
         let mark = HashedAsk::of(entry.key())?;
         self.journal.reserve(1)?;
         put(&mut self.cache, mark, entry)?;

@@ -17,7 +17,7 @@ pub enum Call {
 }
 
 /// The same key once more, with the same ask in memory.
-pub(crate) fn copied(key: &Key) -> Result<Key, Memory>
+pub(crate) fn copy_key(key: &Key) -> Result<Key, Memory>
     ensures { IfOk result (λ copy. key_seen copy ≡ key_seen key.now) }
 {
     let about = match Arc::try_clone(&key.about) {

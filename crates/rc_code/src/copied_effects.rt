@@ -33,7 +33,7 @@ pub(crate) fn copy_effect(alloc: Global, effect: &Effect) -> Result<Effect, Memo
         }
         Effect::Repeat(count, effects) => {
             let effects = copy_effects(alloc, effects)?;
-            Ok(Effect::repeated(copy_int(alloc, count)?, effects))
+            Ok(Effect::repeat(copy_int(alloc, count)?, effects))
         }
         Effect::Each(domain, bound, effects) => {
             let effects = copy_effects(alloc, effects)?;

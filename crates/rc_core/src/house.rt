@@ -14,7 +14,7 @@ ghost use Rattle.rc_core.specs.Laws.{IsOf};
 ghost use Rattle.rc_core.specs.Sound.{IsSound};
 ghost use Rattle.rc_core.specs.Stored.{lane_in, IsOwn, AreOwn};
 
-use crate::entries::taken;
+use crate::entries::take_entry;
 use crate::event::Event;
 use crate::sharing::{hand_over, look_up};
 use crate::working::work;
@@ -192,7 +192,7 @@ impl House {
     {
         // the sheet is well formed and in sight
         let _sheet = self.about.sheet();
-        let _lost = taken(&mut self.entries, key);
+        let _lost = take_entry(&mut self.entries, key);
     }
 }
 
@@ -238,14 +238,14 @@ fn matches_of(
 {
     let mut states = Vec::new(alloc);
     for number in 0..plan.matches.len() as u32 {
-        let state = started(alloc, about, plan, code, number)?;
+        let state = start_lane(alloc, about, plan, code, number)?;
         states.push(state)?;
     }
     Ok(states)
 }
 
 // A match before its first step.
-fn started(
+fn start_lane(
     alloc: Global,
     about: &Arc<About>,
     plan: &Arc<Plan>,

@@ -11,7 +11,7 @@ ghost use Rattle.rc_cache.specs.Replay.{after};
 ghost use Rattle.rc_core.specs.Events.{best_of as best_item, found, looked_up, handed_over};
 ghost use Rattle.rc_core.specs.Stored.{Wants};
 
-use crate::entries::{put_in_front, taken};
+use crate::entries::{put_in_front, take_entry};
 use crate::waiting::{make_ready, miss, release};
 use rc_deck::Memory;
 use rc_match::Phase;
@@ -57,7 +57,7 @@ fn find(phase: &mut Phase, entries: &mut Vec<Entry>, key: &Key, menu: u16)
     ensures { (need : Need) (capacity : ℕ) → phase_seen phase.old ≡ asks need
         → (phase_seen phase.new, entries.new.items) ≡ found capacity entries.old.items need (key_seen key.now ∷ []) }
 {
-    match taken(entries, key) {
+    match take_entry(entries, key) {
         Some(entry) => {
             let item = best_of(&entry, menu);
             put_in_front(entries, entry);
@@ -98,7 +98,7 @@ fn keep(entries: &mut Vec<Entry>, entry: Entry, capacity: usize)
     requires { vec_len entries.old < vec_capacity entries.old }
     ensures { entries.new.items ≡ after capacity entries.old.items (kept entry) }
 {
-    let _replaced = taken(entries, entry.key());
+    let _replaced = take_entry(entries, entry.key());
     put_in_front(entries, entry);
     entries.truncate(capacity);
 }

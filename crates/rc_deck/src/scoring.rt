@@ -33,13 +33,13 @@ pub fn points(map: &PointMap, face: &Face) -> i64
     let _count = map.entries.len();
     let mut sum = 0i128;
     for entry in &map.entries {
-        sum += i128::from(added(entry, face));
+        sum += i128::from(points_of_entry(entry, face));
     }
     sum.clamp(-i128::from(LARGEST_NUMBER), i128::from(LARGEST_NUMBER)) as i64
 }
 
 // What an entry adds to the sum.
-fn added(entry: &PointEntry, face: &Face) -> i64
+fn points_of_entry(entry: &PointEntry, face: &Face) -> i64
     ensures { result ≡ points_added face.now (entry_of entry.now) }
 {
     if fits(entry, face) { entry.points } else { 0 }

@@ -15,7 +15,7 @@ use rc_ast::{IntExpr, Num};
 use rc_board::Board;
 use rc_deck::Memory;
 use rc_rules::Frames;
-use rc_state::{Change, Context, changed, int_now, num_now};
+use rc_state::{Change, Context, changed_number, int_now, num_now};
 
 /// Changes a number by the value of an expression.
 #[inline(never)]
@@ -100,5 +100,5 @@ pub fn change_at(board: &mut Board, at: u16, how: Change, value: i64) -> Result<
     ensures quiet { board.old.notes ≡ false → IsOk result }
 {
     let old = board.table().number(at);
-    board.set_number(at, changed(how, old, value))
+    board.set_number(at, changed_number(how, old, value))
 }

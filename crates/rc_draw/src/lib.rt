@@ -38,7 +38,7 @@ pub fn key32(a: u64, b: u64, c: u64, d: u64) -> [u8; 32]
 }
 
 /// A word as a number below n: n times the part of all words that lies below it, rounded down.
-fn scaled(word: u32, n: u32) -> u32
+fn scale_word(word: u32, n: u32) -> u32
     requires { 0 < n }
     ensures value { result ≡ draws.scaled word n }
     ensures bound { result < n }
@@ -56,7 +56,7 @@ pub fn pick_by(key: &[u8; 32], n: u32) -> u32
         keys_pick_and_permute();
         return 0;
     }
-    scaled(first_word(key), n)
+    scale_word(first_word(key), n)
 }
 
 /// Puts a list of at most 512 items into the order of a key. From the last place down to the second, each takes what
@@ -70,7 +70,7 @@ pub fn shuffle_by(key: &[u8; 32], list: &mut [u16])
     let mut rng = ChaCha8Rng::from_seed(*key);
     let mut z = list.len();
     while z > 1 {
-        let at = scaled(rng.next_word(), z as u32) as usize;
+        let at = scale_word(rng.next_word(), z as u32) as usize;
         list.swap(at, z - 1);
         z -= 1;
     }

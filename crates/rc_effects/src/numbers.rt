@@ -11,7 +11,7 @@ ghost use Rattle.rc_state.specs.Leads.{LeadsTo, effect_by, new_by};
 
 use rc_ast::{IntExpr, Num};
 use rc_rules::Frames;
-use rc_state::{Change, Context, changed, int_now, num_now};
+use rc_state::{Change, Context, changed_number, int_now, num_now};
 use rc_table::Table;
 
 /// Changes a number by the value of an expression.
@@ -43,5 +43,5 @@ pub fn change_at(table: &mut Table, at: u16, how: Change, value: i64)
     ensures { table.new ≡ relaid table.old (effects.change (new_by how) value at table.old.table) }
 {
     let old = table.number(at);
-    table.set_number(at, changed(how, old, value));
+    table.set_number(at, changed_number(how, old, value));
 }

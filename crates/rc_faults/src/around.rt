@@ -70,7 +70,7 @@ impl<'a> Around<'a> {
     }
 
     /// What is around the score: the player who is scored is `'SELF`.
-    fn scored(alloc: Global) -> Result<Around<'a>, SheetFail>
+    fn of_score(alloc: Global) -> Result<Around<'a>, SheetFail>
         ensures around { IfOk result (λ around. around ≡ model.scored) }
         ensures memory { OnErr result (result ≡ Err SheetFail.Memory) }
     {
@@ -83,7 +83,7 @@ impl<'a> Around<'a> {
     }
 
     /// The same.
-    fn copied(&self, alloc: Global) -> Result<Around<'a>, SheetFail>
+    fn copy(&self, alloc: Global) -> Result<Around<'a>, SheetFail>
         ensures around { IfOk result (λ around. around ≡ self.now) }
         ensures memory { OnErr result (result ≡ Err SheetFail.Memory) }
     {
@@ -101,7 +101,7 @@ impl<'a> Around<'a> {
         ensures around { IfOk result (λ around. around ≡ model.in_stage player_class self.now) }
         ensures memory { OnErr result (result ≡ Err SheetFail.Memory) }
     {
-        let mut around = self.copied(alloc)?;
+        let mut around = self.copy(alloc)?;
         around.player_stage = true;
         Ok(around)
     }
@@ -111,7 +111,7 @@ impl<'a> Around<'a> {
         ensures around { IfOk result (λ around. around ≡ model.in_stage team_class self.now) }
         ensures memory { OnErr result (result ≡ Err SheetFail.Memory) }
     {
-        let mut around = self.copied(alloc)?;
+        let mut around = self.copy(alloc)?;
         around.team_stage = true;
         Ok(around)
     }
@@ -122,7 +122,7 @@ impl<'a> Around<'a> {
         ensures around { IfOk result (λ around. around ≡ model.in_repeat self.now) }
         ensures memory { OnErr result (result ≡ Err SheetFail.Memory) }
     {
-        let mut around = self.copied(alloc)?;
+        let mut around = self.copy(alloc)?;
         around.repeats += 1;
         Ok(around)
     }
@@ -133,7 +133,7 @@ impl<'a> Around<'a> {
         ensures around { IfOk result (λ around. around ≡ classes.bound_in self.now word.now sort) }
         ensures memory { OnErr result (result ≡ Err SheetFail.Memory) }
     {
-        let mut around = self.copied(alloc)?;
+        let mut around = self.copy(alloc)?;
         around.scope.push(BoundVariable { word, sort })?;
         around.binders += 1;
         Ok(around)
@@ -152,7 +152,7 @@ impl<'a> Around<'a> {
         ensures memory { OnErr result (result ≡ Err SheetFail.Memory) }
     {
         match rule {
-            Rule::Scoring => Ok(Inner::All(Around::scored(alloc)?)),
+            Rule::Scoring => Ok(Inner::All(Around::of_score(alloc)?)),
             Rule::PlayerStage => Ok(Inner::All(self.in_player_stage(alloc)?)),
             Rule::TeamStage => Ok(Inner::All(self.in_team_stage(alloc)?)),
             Rule::Repeat => Ok(Inner::Behind(1, self.in_repeat(alloc)?)),

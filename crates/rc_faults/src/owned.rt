@@ -149,7 +149,7 @@ impl<'a> Owned<'a> {
             return Ok(());
         }
         self.firsts.push(mention)?;
-        self.total = counted(most, self.total, owners_of(whole, mention.class));
+        self.total = add_to_count(most, self.total, owners_of(whole, mention.class));
         Ok(())
     }
 }
@@ -186,7 +186,7 @@ pub fn goes_over(most: u64, count: u64, more: u64) -> bool
 }
 
 /// A count and so many more. It stops one above its limit.
-pub fn counted(most: u64, count: u64, more: u64) -> u64
+pub fn add_to_count(most: u64, count: u64, more: u64) -> u64
     requires { most < 2 ^ 32 }
     ensures { result ≡ spec.counted most count more }
 {

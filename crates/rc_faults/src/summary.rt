@@ -10,7 +10,7 @@ ghost use Rattle.rc_faults.specs.Summary as spec;
 use crate::faces::faces_of;
 use crate::fault::SheetFail;
 use crate::names::DifferentNames;
-use crate::owned::{Owned, counted, goes_over, is_misplaced, mention_of};
+use crate::owned::{Owned, add_to_count, goes_over, is_misplaced, mention_of};
 use crate::parts::{number_by, part_at, word_in};
 use crate::role::Role;
 use crate::standing::Setting;
@@ -118,16 +118,16 @@ impl<'a> Summary<'a> {
             }
             Rule::CreateDeck => {
                 let faces = faces_of(part_at(3, parts));
-                self.cards = counted(MOST_CARDS, self.cards, faces.into());
+                self.cards = add_to_count(MOST_CARDS, self.cards, faces.into());
             }
             Rule::Group | Rule::Entry => self.attributes.insert(word_in(0, parts))?,
             Rule::PutPoints => self.maps.insert(word_in(2, parts))?,
             Rule::Location => self.locations.insert(whole, MOST_OWNED, mention_of(parts))?,
             Rule::Counter => self.numbers.insert(whole, MOST_OWNED, mention_of(parts))?,
             Rule::PlayerStage | Rule::TeamStage => {
-                self.stages = counted(MOST_STAGES, self.stages, 1);
+                self.stages = add_to_count(MOST_STAGES, self.stages, 1);
             }
-            Rule::Choice => self.choices = counted(MOST_CHOICES, self.choices, 1),
+            Rule::Choice => self.choices = add_to_count(MOST_CHOICES, self.choices, 1),
             _ => {}
         }
         Ok(())

@@ -2,7 +2,7 @@
 ghost use Rattle.std.specs.Prelude.{◌≡◌, IfOk};
 ghost use Rattle.rc_play_model.specs.Shape.{shape_of as shape_for};
 
-use crate::sheets::{NoGame, checked, sheet_in};
+use crate::sheets::{NoGame, checked_sheet, sheet_in};
 use rc_deck::Memory;
 use rc_flow::Checked;
 use rc_rules::shape_of;
@@ -34,6 +34,6 @@ pub fn basis_in(alloc: Global, text: &[u8]) -> Result<Basis, NoGame>
     ensures { IfOk result (λ basis. basis.shape.value ≡ shape_for basis.checked.value) }
 {
     let sheet = sheet_in(alloc, text)?;
-    let checked = checked(sheet)?;
+    let checked = checked_sheet(sheet)?;
     Ok(Basis::new(alloc, checked)?)
 }

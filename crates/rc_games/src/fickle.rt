@@ -109,7 +109,7 @@ impl Memo for Fickle {
             self.looks = looks;
             return Ok(Reply::Miss);
         }
-        match found(alloc, &self.entries, key) {
+        match reply_for(alloc, &self.entries, key) {
             Ok(Reply::Hit(totals)) => {
                 self.looks = looks;
                 self.hits = hits;
@@ -138,7 +138,7 @@ impl Memo for Fickle {
 }
 
 // What entries of one about answer to a key of it.
-fn found(alloc: Global, entries: &[Entry], key: &Key) -> Result<Reply, Memory>
+fn reply_for(alloc: Global, entries: &[Entry], key: &Key) -> Result<Reply, Memory>
     requires { AllByRecursion (λ entry. entry.about ≡ (key_seen key.now).about) entries.now }
     ensures { IfOk result (λ reply. IfHit reply
         (λ totals. totals ≡ tally_of (key_seen key.now).about (key_seen key.now).ask)) }

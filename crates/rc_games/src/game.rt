@@ -36,7 +36,7 @@ pub fn game_in(alloc: Global, sheet: &[u8], plan: &[u8]) -> Result<Game, NoGame>
         return Err(NoGame::Plan);
     }
     let code = shared_code(alloc, &about)?;
-    Ok(shared(alloc, about, plan, code)?)
+    Ok(share_game(alloc, about, plan, code)?)
 }
 
 /// The plan of a text, for so many players.
@@ -65,7 +65,7 @@ fn about_on(alloc: Global, basis: Basis, turns: u32) -> Result<About, Memory>
     About::new(alloc, basis.checked, basis.shape, turns)
 }
 
-fn shared(alloc: Global, about: About, plan: Plan, code: Arc<Code>) -> Result<Game, Memory>
+fn share_game(alloc: Global, about: About, plan: Plan, code: Arc<Code>) -> Result<Game, Memory>
     requires code { StandsFor about.sheet (code_seen code.value) }
     requires seats { length plan.strategies.items ≡ about.sheet.players }
     ensures code { IfOk result (λ game. StandsFor game.about.value.sheet (code_seen game.code.value)) }

@@ -11,7 +11,7 @@ use crate::alike::{Dealers, expect_same_scores, expect_same_stop, items_of_both}
 use crate::observed::Observer;
 use crate::picks::{Picks, Rollout};
 use crate::stray::Stray;
-use crate::there::{There, flat_at, home_at, redrawn, tree_at};
+use crate::there::{There, flat_at, home_at, redrawn_table, tree_at};
 use rc_code::Code;
 use rc_deck::Memory;
 use rc_flat::{FlatMachine, HomeMachine};
@@ -49,7 +49,7 @@ impl Returns {
     }
 
     /// How many playouts came back, unless one did not.
-    pub fn seen(&self) -> Result<Playouts, Stray> {
+    pub fn playouts_seen(&self) -> Result<Playouts, Stray> {
         self.seen
     }
 }
@@ -77,7 +77,7 @@ fn with_playouts(
     requires need { IsNeed (need_seen need.now) }
     requires code { StandsFor (need_seen need.now).about.sheet (code_seen code.now.value) }
 {
-    let first = redrawn(alloc, need, rollout.key, 0)?;
+    let first = redrawn_table(alloc, need, rollout.key, 0)?;
     let mut home = home_at(alloc, need, code, &first)?;
     let mut playouts = before;
     for round in 0..rollout.rounds {
@@ -110,7 +110,7 @@ fn round_of(
     ensures about { home.new.about ≡ (need_seen need.now).about }
     ensures control { home.new.home.control ≡ (need_seen need.now).view.control }
 {
-    let table = redrawn(alloc, need, key, round)?;
+    let table = redrawn_table(alloc, need, key, round)?;
     home.move_home(&table);
     let mut flat = flat_at(alloc, need, code, &table)?;
     playouts_from(alloc, need, &table, (key, round), &mut flat, home)

@@ -56,7 +56,7 @@ pub fn checked_of_form(alloc: Global, form: &Form) -> Result<Checked, NoGame>
     requires of_atoms { IsOfAtoms (tree_of form.now) }
 {
     match sheet_of_form(alloc, form) {
-        Ok(sheet) => checked(sheet),
+        Ok(sheet) => checked_sheet(sheet),
         Err(why) => Err(why),
     }
 }
@@ -80,7 +80,7 @@ pub(crate) fn sheet_in(alloc: Global, text: &[u8]) -> Result<Sheet, NoGame>
 }
 
 /// The sheet, where it keeps the sight rule.
-pub(crate) fn checked(sheet: Sheet) -> Result<Checked, NoGame>
+pub(crate) fn checked_sheet(sheet: Sheet) -> Result<Checked, NoGame>
     requires { IsWellFormed (sheet_seen sheet) }
 {
     match check_sight(sheet) {

@@ -21,7 +21,7 @@ use std::alloc::Global;
 use std::sync::Arc;
 
 /// The table of a round that a rollout with this key redraws for a decision.
-pub fn redrawn(alloc: Global, need: &Need, key: u64, round: u16) -> Result<Table, Memory>
+pub fn redrawn_table(alloc: Global, need: &Need, key: u64, round: u16) -> Result<Table, Memory>
     requires { IsNeed (need_seen need.now) }
     ensures laid { IfOk result (λ table. table.shape ≡ (need_seen need.now).about.shape) }
     ensures decides { IfOk result (λ table. CanDecide (need_seen need.now).about table.table

@@ -72,7 +72,7 @@ fn run_on<L: Ledger>(
     run_alone(alloc, words, source, out, notes, &mut steps)
 }
 
-pub fn owned(alloc: Global, words: &[&str]) -> Result<Vec<String>, AllocError> {
+pub fn owned_words(alloc: Global, words: &[&str]) -> Result<Vec<String>, AllocError> {
     let mut owned = Vec::new(alloc);
     for word in words {
         owned.push(String::from_str(alloc, *word)?)?;
@@ -86,7 +86,7 @@ fn run_words(
     source: &mut Bytes,
     sinks: &mut Sinks,
 ) -> Result<Status, AllocError> {
-    let words = owned(alloc, words)?;
+    let words = owned_words(alloc, words)?;
     let blank = Blank::new(1);
     Ok(run_on::<Brand>(alloc, words.as_slice(), source, sinks, blank))
 }
@@ -109,7 +109,7 @@ pub fn expect_end(
     let mut sinks = sinks_of(rt.alloc(), writes)?;
     let status = run_words(rt.alloc(), words, source, &mut sinks)?;
     expect_same(rt, status, end.status);
-    expect_same(rt, sinks.out.written(), end.written);
-    expect_same(rt, sinks.notes.written(), end.noted);
+    expect_same(rt, sinks.out.written_bytes(), end.written);
+    expect_same(rt, sinks.notes.written_bytes(), end.noted);
     Ok(())
 }

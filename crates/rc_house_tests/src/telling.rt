@@ -66,7 +66,7 @@ strategy 1 2 0 0
 ";
 
 /// Behind a text that nothing is noted of.
-fn told(written: &[u8]) -> End<'_> {
+fn told_end(written: &[u8]) -> End<'_> {
     End {
         status: Status::Done,
         written,
@@ -93,8 +93,8 @@ fn expect_told(
 
 #[test]
 fn a_seat_sees_a_match_of_the_plan_and_no_other(rt: HostRuntime) -> Result<(), Fail> {
-    expect_told(&rt, &["watch", "0", "0"], SOURCE, told(LOG))?;
-    expect_told(&rt, &["watch", "00000", "0"], SOURCE, told(LOG))?;
+    expect_told(&rt, &["watch", "0", "0"], SOURCE, told_end(LOG))?;
+    expect_told(&rt, &["watch", "00000", "0"], SOURCE, told_end(LOG))?;
     expect_told(&rt, &["watch", "2", "0"], SOURCE, ABSENT)?;
     expect_told(&rt, &["watch", "0", "1"], SOURCE, ABSENT)
 }
@@ -103,5 +103,5 @@ fn a_seat_sees_a_match_of_the_plan_and_no_other(rt: HostRuntime) -> Result<(), F
 fn what_was_played_is_measured(rt: HostRuntime) -> Result<(), Fail> {
     let mut text = SOURCE.to_vec(rt.alloc())?;
     text.extend_from_slice(TEXT)?;
-    expect_told(&rt, &["measure"], &text, told(MEASURES))
+    expect_told(&rt, &["measure"], &text, told_end(MEASURES))
 }

@@ -2,7 +2,7 @@
 //! rollouts are two seats' with two cards each, of which each decision asks something else.
 use crate::expect::expect_same;
 use crate::game::{SHEET, SOURCE};
-use crate::ports::{Sinks, WIDE, owned, sinks_of};
+use crate::ports::{Sinks, WIDE, owned_words, sinks_of};
 use rc_house::{Status, run};
 use rc_outside::{Gate, Plain};
 use std::alloc::Global;
@@ -142,7 +142,7 @@ fn run_words<R: AllocGlobal + Threads + Wait + Sync>(
     sinks: &mut Sinks,
     gate: &Held,
 ) -> Result<Status, Fail> {
-    let words = owned(rt.alloc(), WORDS)?;
+    let words = owned_words(rt.alloc(), WORDS)?;
     let mut source = source_of(rt.alloc(), plan)?;
     let Sinks { out, notes } = sinks;
     Ok(run(
@@ -158,7 +158,7 @@ fn run_words<R: AllocGlobal + Threads + Wait + Sync>(
 
 /// What two workers write and note who play a plan behind a gate. Fails unless the gate lets a match enter in time, and
 /// the text is right.
-fn played<R: AllocGlobal + Abort + Threads + Wait + Sync>(
+fn play_by_workers<R: AllocGlobal + Abort + Threads + Wait + Sync>(
     rt: &R,
     alike: Alike,
     gate: &Held,
@@ -167,7 +167,7 @@ fn played<R: AllocGlobal + Abort + Threads + Wait + Sync>(
     let status = run_words(rt, alike.plan, &mut sinks, gate)?;
     expect_same(rt, status, Status::Done);
     expect_same(rt, gate.in_time.load(Ordering::SeqCst), 1);
-    expect_same(rt, sinks.out.written(), alike.text);
+    expect_same(rt, sinks.out.written_bytes(), alike.text);
     Ok(sinks)
 }
 
@@ -175,7 +175,7 @@ fn played<R: AllocGlobal + Abort + Threads + Wait + Sync>(
 #[test]
 fn either_of_two_matches_enters_while_the_other_is_held(rt: HostRuntime) -> Result<(), Fail> {
     for (held, until) in [(0, 1), (1, 0)] {
-        played(&rt, TWO, &Held::new(held, until))?;
+        play_by_workers(&rt, TWO, &Held::new(held, until))?;
     }
     Ok(())
 }
@@ -183,7 +183,7 @@ fn either_of_two_matches_enters_while_the_other_is_held(rt: HostRuntime) -> Resu
 /// Where each worker played every second match, match 2 would come behind match 0.
 #[test]
 fn the_matches_behind_a_held_one_are_played(rt: HostRuntime) -> Result<(), Fail> {
-    played(&rt, THREE, &Held::new(0, 2))?;
+    play_by_workers(&rt, THREE, &Held::new(0, 2))?;
     Ok(())
 }
 
@@ -191,10 +191,10 @@ fn the_matches_behind_a_held_one_are_played(rt: HostRuntime) -> Result<(), Fail>
 /// left.
 #[test]
 fn matches_find_the_totals_of_one_that_is_over(rt: HostRuntime) -> Result<(), Fail> {
-    let sinks = played(&rt, THREE, &Held::new(1, 2))?;
+    let sinks = play_by_workers(&rt, THREE, &Held::new(1, 2))?;
     expect_same(
         &rt,
-        sinks.notes.written(),
+        sinks.notes.written_bytes(),
         b"cache looks 12 hits 8\n".as_slice(),
     );
     Ok(())

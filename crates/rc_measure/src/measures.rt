@@ -16,7 +16,7 @@ ghost use Rattle.rc_measure.specs.Text.{HasNumbers};
 use crate::leads::{best_in, leads_in};
 use crate::scores::spread_in;
 use crate::tally::{GroupBy, Tally, tallies_by};
-use crate::turns::{ascending, turns_in};
+use crate::turns::{ascending_turns, turns_in};
 use rc_deck::Memory;
 use rc_names::limits::MOST_SITES;
 use rc_rules::{Ended, MatchRecord, Plan};
@@ -202,7 +202,7 @@ fn turns_row(alloc: Global, matches: &[MatchRecord]) -> Result<Vec<i64>, Memory>
     requires some { 0 < length matches.now }
     ensures { IfOk result (λ row. row.items ≡ measured.turns_row (map record_seen matches.now)) }
 {
-    let turns = ascending(alloc, matches)?;
+    let turns = ascending_turns(alloc, matches)?;
     let count = turns.len();
     let least = i64::from(turns[0]);
     let middle = i64::from(turns[count / 2]);

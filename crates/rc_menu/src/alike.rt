@@ -92,7 +92,7 @@ fn count_built_groups(scene: &Scene, scope: &Bindings, cards: &CollExpr, name: u
 {
     let mut room = Cards::new();
     coll_of(scene, scope, cards, &mut room);
-    count_values(scene, &Collection::built(room.as_slice()), name)
+    count_values(scene, &Collection::of_cards(room.as_slice()), name)
 }
 
 // Whether an alternative's guard reads the variable at a place, or may do so behind further ones.

@@ -356,13 +356,13 @@ fn sole_list<'t>(asks: &Asks<'t>) -> Option<&'t Test>
         return None;
     }
     match asks[0] {
-        CardAsk::Whole(test) => listed(test),
+        CardAsk::Whole(test) => test_if_list(test),
         _ => None,
     }
 }
 
 // The test, if it is a list of tests.
-fn listed<'t>(test: &'t Test) -> Option<&'t Test>
+fn test_if_list<'t>(test: &'t Test) -> Option<&'t Test>
     ensures { IfSome result (λ same. same ≡ test.entry) }
 {
     match test {

@@ -141,7 +141,7 @@ fn offer_built(
     offer_cards(
         scene,
         scope,
-        &Collection::built(room.as_slice()),
+        &Collection::of_cards(room.as_slice()),
         inner,
         item,
         menu,
@@ -312,7 +312,7 @@ fn offer_each_group(
 {
     let mut room = Cards::new();
     coll_of(scene, scope, cards, &mut room);
-    let all = Collection::built(room.as_slice());
+    let all = Collection::of_cards(room.as_slice());
     let mut values = Values::new();
     note_values(scene, &all, name, &mut values);
     let mut group = Cards::new();

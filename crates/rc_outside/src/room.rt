@@ -60,7 +60,7 @@ impl Room {
     }
 
     /// The bytes that were written.
-    pub fn written(&self) -> &[u8]
+    pub fn written_bytes(&self) -> &[u8]
         ensures { result.now ≡ self.now.written }
     {
         self.written.as_slice()

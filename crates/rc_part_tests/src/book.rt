@@ -198,7 +198,7 @@ impl Told {
     }
 }
 
-fn asked(call: &Call) -> &Ask {
+fn ask_in(call: &Call) -> &Ask {
     match call {
         Call::Looked { key, .. } => &key.ask,
         Call::Kept { key, .. } => &key.ask,
@@ -206,7 +206,7 @@ fn asked(call: &Call) -> &Ask {
 }
 
 /// How many calls missed, hit and kept in all, or of those which ask this.
-fn counted(calls: &[Call], ask: Option<&Ask>) -> Told {
+fn count_calls(calls: &[Call], ask: Option<&Ask>) -> Told {
     let mut told = Told {
         misses: 0,
         hits: 0,
@@ -214,7 +214,7 @@ fn counted(calls: &[Call], ask: Option<&Ask>) -> Told {
     };
     for call in calls {
         let counts = match ask {
-            Some(ask) => same_ask(ask, asked(call)),
+            Some(ask) => same_ask(ask, ask_in(call)),
             None => true,
         };
         if counts {
@@ -227,11 +227,11 @@ fn counted(calls: &[Call], ask: Option<&Ask>) -> Told {
 /// Fails unless the calls look up what is asked at each decision of both matches, and nothing else, and keep what they
 /// missed.
 fn expect_calls(rt: &(impl AllocGlobal + Abort), calls: &[Call]) -> Result<(), Fail> {
-    let all = counted(calls, None);
+    let all = count_calls(calls, None);
     expect_same(rt, all.misses.saturating_add(all.hits), 8);
     for decision in DECISIONS {
         let ask = ask_at(rt.alloc(), &decision)?;
-        let told = counted(calls, Some(&ask));
+        let told = count_calls(calls, Some(&ask));
         expect_same(rt, told.misses.saturating_add(told.hits), 2);
         expect_same(rt, told.keeps, told.misses);
     }
@@ -243,7 +243,7 @@ fn expect_calls(rt: &(impl AllocGlobal + Abort), calls: &[Call]) -> Result<(), F
 fn expect_totals<N: BookNaming>(rt: &impl Abort, book: Book<N>, lanes: Vec<Lane<N>>)
     requires { length lanes.items ≡ N.lanes }
 {
-    let all = counted(book.journal(), None);
+    let all = count_calls(book.journal(), None);
     let totals = close(book, lanes);
     expect_same(rt, (totals.capacity(), totals.lanes()), (65536, 2));
     expect_same(rt, totals.looks(), 8);

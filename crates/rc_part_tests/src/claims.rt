@@ -31,7 +31,7 @@ fn two_passes_claim_by_turns(rt: HostRuntime) -> Result<(), Fail> {
 }
 
 // All that a pass gets.
-fn claimed(alloc: Global, claims: &Claims, pass: Pass) -> Result<Vec<u32>, Memory>
+fn claim_all(alloc: Global, claims: &Claims, pass: Pass) -> Result<Vec<u32>, Memory>
     requires own { pass.table ≡ claims.now.table }
     requires none { pass.numbers ≡ [] }
 {
@@ -58,12 +58,12 @@ fn claimed_at_once<R: AllocGlobal + Threads + Sync>(
         &|pass: Pass| -> Result<Vec<u32>, Memory>
             requires own { pass.table ≡ claims.now.table }
             requires none { pass.numbers ≡ [] }
-        { claimed(alloc, claims, pass) },
+        { claim_all(alloc, claims, pass) },
     )?)
 }
 
 /// All numbers of these lists, in order.
-fn sorted(alloc: Global, lists: &[Result<Vec<u32>, Memory>]) -> Result<Vec<u32>, Fail> {
+fn sorted_numbers(alloc: Global, lists: &[Result<Vec<u32>, Memory>]) -> Result<Vec<u32>, Fail> {
     let mut all = Vec::new(alloc);
     for list in lists {
         match list {
@@ -81,7 +81,7 @@ fn threads_claim_each_number_once(rt: HostRuntime) -> Result<(), Fail> {
         .ok()
         .ok_or("there is memory")?;
     let lists = claimed_at_once(&rt, &claims, passes)?;
-    let all = sorted(rt.alloc(), &lists)?;
+    let all = sorted_numbers(rt.alloc(), &lists)?;
     expect_same(&rt, all.len(), 4096);
     for (place, number) in all.iter().enumerate() {
         expect_same(&rt, place, *number as usize);

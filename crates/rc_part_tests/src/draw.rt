@@ -68,7 +68,7 @@ fn a_key_picks_as_the_generator_does(rt: HostRuntime) {
 }
 
 /// So many numbers, from 0 on.
-fn numbered(alloc: Global, size: u16) -> Result<Vec<u16>, AllocError> {
+fn numbers_below(alloc: Global, size: u16) -> Result<Vec<u16>, AllocError> {
     let mut list = Vec::new(alloc);
     for item in 0..size {
         list.push(item)?;
@@ -88,7 +88,7 @@ fn sorted_again(alloc: Global, initial: &[u16], first: u64) -> Result<Vec<u16>, 
 
 /// Fails unless a key with this first number permutes a list of so many numbers.
 fn expect_permutation(rt: &(impl AllocGlobal + Abort), first: u64, size: u16) -> Result<(), Fail> {
-    let initial = numbered(rt.alloc(), size)?;
+    let initial = numbers_below(rt.alloc(), size)?;
     assert!(rt; initial.len() <= 512);
     let list = sorted_again(rt.alloc(), &initial, first)?;
     expect_same(rt, list.as_slice(), initial.as_slice());

@@ -31,7 +31,7 @@ impl Doors {
     }
 
     /// How often a match entered.
-    fn entered(&self, m: usize) -> u64 {
+    fn entry_count(&self, m: usize) -> u64 {
         match self.entered.get(m) {
             Some(door) => door.load(Ordering::SeqCst),
             None => 0,
@@ -58,7 +58,7 @@ struct Doorkeeper {
 
 impl Observer for Doorkeeper {
     fn see(&mut self, _alloc: Global, need: &Need, _code: &Arc<Code>) {
-        if self.doors.entered(need.seed as usize) == 1 {
+        if self.doors.entry_count(need.seed as usize) == 1 {
             self.behind = self.behind.saturating_add(1);
         } else {
             self.before = self.before.saturating_add(1);
@@ -97,7 +97,7 @@ fn chooser(code: &Arc<Code>, doors: &Arc<Doors>) -> Result<Observed<Doorkeeper>,
 }
 
 /// How many decisions the choosers saw of matches that had entered, and of others.
-fn seen(choosers: Vec<Observed<Doorkeeper>>) -> (u32, u32) {
+fn counts_in(choosers: Vec<Observed<Doorkeeper>>) -> (u32, u32) {
     let mut behind = 0u32;
     let mut before = 0u32;
     for chooser in choosers {
@@ -109,7 +109,7 @@ fn seen(choosers: Vec<Observed<Doorkeeper>>) -> (u32, u32) {
 }
 
 /// Two workers play the plan. What their doorkeepers saw.
-fn played<R: AllocGlobal + Threads + Sync>(
+fn play_game<R: AllocGlobal + Threads + Sync>(
     rt: &R,
     game: &Game,
     doors: &Arc<Doors>,
@@ -130,7 +130,7 @@ fn played<R: AllocGlobal + Threads + Sync>(
         choosers,
         &**doors,
     )?;
-    Ok(seen(choosers))
+    Ok(counts_in(choosers))
 }
 
 /// No other worker enters a match than the one that claimed it and plays it. So where that one asks the gate behind the
@@ -140,9 +140,9 @@ fn a_match_enters_before_it_is_played(rt: HostRuntime) -> Result<(), Fail> {
     let game = game_in(rt.alloc(), GAME, PLAN)?;
     assert!(rt; game.plan.matches.len() == 3);
     let doors = Arc::new(rt.alloc(), Doors::new())?;
-    expect_same(&rt, played(&rt, &game, &doors)?, (12, 0));
+    expect_same(&rt, play_game(&rt, &game, &doors)?, (12, 0));
     for m in 0..3usize {
-        expect_same(&rt, doors.entered(m), 1);
+        expect_same(&rt, doors.entry_count(m), 1);
     }
     Ok(())
 }

@@ -94,7 +94,7 @@ fn costs_of(plan: &Plan, record: &MatchRecord) -> (u64, u32) {
 fn expect_returns(rt: &impl Abort, plan: &Plan, watched: &Watched) {
     let (looks, made) = costs_of(plan, &watched.record);
     let playouts = Playouts { made, shuffles: 0 };
-    expect_same(rt, watched.returns.seen(), Ok(playouts));
+    expect_same(rt, watched.returns.playouts_seen(), Ok(playouts));
     expect_same(
         rt,
         (watched.memo.looks(), watched.memo.keeps()),

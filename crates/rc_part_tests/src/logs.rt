@@ -8,7 +8,7 @@ use rc_games::{GAME, basis_in, checked_of_form};
 use rc_names::limits::LONGEST_TEXT;
 use rc_plan::{PlanFail, plan_of};
 use rc_seatlog::{LogFail, LogText, read_log};
-use rc_watch::watched;
+use rc_watch::watched_log;
 use std::alloc::Global;
 use std::test::Fail;
 
@@ -169,7 +169,7 @@ fn log_in(alloc: Global, plan: &[u8], seat: u8) -> Result<Vec<u8>, Fail>
     if plan.matches.is_empty() {
         return Err("it has a match".into());
     }
-    Ok(watched(alloc, checked, plan, seat, 0)?)
+    Ok(watched_log(alloc, checked, plan, seat, 0)?)
 }
 
 #[test]

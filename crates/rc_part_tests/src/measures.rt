@@ -33,7 +33,7 @@ fn score(player: u8, told: (i16, u8)) -> Score
 }
 
 /// A match of two players.
-fn played(
+fn played_match(
     rt: &(impl AllocGlobal + Abort),
     number: u32,
     picks: &[Pick],
@@ -79,7 +79,7 @@ fn text(alloc: Global, matches: &[MatchRecord]) -> Result<Vec<u8>, Memory>
 #[test]
 fn a_match_is_measured(rt: HostRuntime) -> Result<(), Fail> {
     let picks = [pick(0, 0, 2), pick(1, 0, 2), pick(0, 0, 1), pick(1, 0, 1)];
-    let only = played(&rt, 0, &picks, (Ended::Done, 8), [(7, 2), (3, 0)])?;
+    let only = played_match(&rt, 0, &picks, (Ended::Done, 8), [(7, 2), (3, 0)])?;
     let measures = text(rt.alloc(), &[only])?;
     let expected: &[u8] = b"\
 measure 1
@@ -102,7 +102,7 @@ strategy 1 2 0 0
 
 #[test]
 fn a_match_without_a_choice_that_the_limit_ends_is_measured(rt: HostRuntime) -> Result<(), Fail> {
-    let only = played(&rt, 0, &[], (Ended::Limit, 1), [(0, 1), (0, 1)])?;
+    let only = played_match(&rt, 0, &[], (Ended::Limit, 1), [(0, 1), (0, 1)])?;
     let measures = text(rt.alloc(), &[only])?;
     let expected: &[u8] = b"\
 measure 1
@@ -128,10 +128,10 @@ fn matches_are_measured_together(rt: HostRuntime) -> Result<(), Fail> {
     let (first, second) = ([pick(0, 63, 3), pick(1, 1, 1)], [pick(1, 1, 2)]);
     let last = [pick(0, 63, 1), pick(0, 63, 4)];
     let matches = [
-        played(&rt, 0, &first, (Ended::Done, 5), [(-3, 0), (-1, 2)])?,
-        played(&rt, 1, &second, (Ended::Limit, 9), [(4, 1), (4, 1)])?,
-        played(&rt, 2, &[], (Ended::Done, 2), [(0, 2), (-10, 0)])?,
-        played(&rt, 3, &last, (Ended::Done, 7), [(1, 2), (0, 0)])?,
+        played_match(&rt, 0, &first, (Ended::Done, 5), [(-3, 0), (-1, 2)])?,
+        played_match(&rt, 1, &second, (Ended::Limit, 9), [(4, 1), (4, 1)])?,
+        played_match(&rt, 2, &[], (Ended::Done, 2), [(0, 2), (-10, 0)])?,
+        played_match(&rt, 3, &last, (Ended::Done, 7), [(1, 2), (0, 0)])?,
     ];
     let measures = text(rt.alloc(), &matches)?;
     let expected: &[u8] = b"\

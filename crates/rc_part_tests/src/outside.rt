@@ -18,7 +18,7 @@ fn failing_sink(alloc: Global) -> Result<Room, Fail> {
 fn write_all_writes_what_is_left(rt: HostRuntime) -> Result<(), Fail> {
     let mut sink = failing_sink(rt.alloc())?;
     expect_same(&rt, write_all(&mut sink, TEXT), Err(WriteFault));
-    expect_same(&rt, sink.written(), &TEXT[..16]);
+    expect_same(&rt, sink.written_bytes(), &TEXT[..16]);
     Ok(())
 }
 

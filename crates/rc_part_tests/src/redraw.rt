@@ -40,7 +40,7 @@ fn about_in(alloc: Global, text: &[u8]) -> Result<About, Fail> {
 }
 
 /// A match at its first decision.
-fn decided(alloc: Global, about: &About) -> Result<PlainMachine, Fail>
+fn machine_at_decision(alloc: Global, about: &About) -> Result<PlainMachine, Fail>
     ensures { IfOk result (λ m. m.about ≡ about.now) }
 {
     let mut machine = PlainMachine::start_of(alloc, about)?;
@@ -49,7 +49,7 @@ fn decided(alloc: Global, about: &About) -> Result<PlainMachine, Fail>
 }
 
 /// The table that is redrawn of what the first seat sees of a match.
-fn redrawn(
+fn redrawn_table(
     rt: &(impl AllocGlobal + Abort),
     about: &About,
     machine: &PlainMachine,
@@ -68,9 +68,9 @@ fn redrawn(
 #[test]
 fn a_table_is_redrawn_by_what_is_seen_and_a_key(rt: HostRuntime) -> Result<(), Fail> {
     let about = about_in(rt.alloc(), PILES)?;
-    let machine = decided(rt.alloc(), &about)?;
+    let machine = machine_at_decision(rt.alloc(), &about)?;
     expect_lists(&rt, machine.table(), &DEALT);
-    let table = redrawn(&rt, &about, &machine)?;
+    let table = redrawn_table(&rt, &about, &machine)?;
     expect_lists(&rt, &table, &REDRAWN);
     expect_same(&rt, table.number(0), -3);
     Ok(())

@@ -50,7 +50,7 @@ enum Turn {
 }
 
 /// A house for both matches, before the first event.
-fn opened(rt: &(impl AllocGlobal + Abort)) -> Result<House, Fail> {
+fn open_house(rt: &(impl AllocGlobal + Abort)) -> Result<House, Fail> {
     let about = about_in(rt.alloc())?;
     let plan = plan_in(rt.alloc())?;
     assert!(rt; about.sheet().players == 2);
@@ -58,7 +58,7 @@ fn opened(rt: &(impl AllocGlobal + Abort)) -> Result<House, Fail> {
 }
 
 /// The key of the entry that a match holds, if it holds one.
-fn held(phase: &Phase) -> Result<Option<Key>, Fail> {
+fn held_key(phase: &Phase) -> Result<Option<Key>, Fail> {
     match phase {
         Phase::Holds(_, entry) => {
             let about = Arc::try_clone(&entry.key().about)?;
@@ -104,7 +104,7 @@ fn take_turn(
     run_core(rt.alloc(), house, &[Event::Private(m), Event::Look(m)])?;
     let phase = phase_in(rt, house, m);
     let turn = turn_to(phase);
-    let key = held(phase)?;
+    let key = held_key(phase)?;
     run_core(rt.alloc(), house, &[Event::Keep(m)])?;
     if loses {
         lose(rt, house, key)?;
@@ -142,7 +142,7 @@ fn expect_match(
 fn matches_are_the_same_whatever_is_lost(rt: HostRuntime) -> Result<(), Fail> {
     for lost in 0..16u8 {
         let [a, b, c, d] = [lost & 1 != 0, lost & 2 != 0, lost & 4 != 0, lost & 8 != 0];
-        let mut house = opened(&rt)?;
+        let mut house = open_house(&rt)?;
         let losing = [(false, a), (false, b), (false, c), (false, d)];
         expect_match(&rt, &mut house, 0, losing, FIRST)?;
         let finding = [(!a, a), (!b, b), (!c, c), (!d, d)];

@@ -40,7 +40,7 @@ fn decision_of(rt: &(impl AllocGlobal + Abort), machine: &PlainMachine) -> Resul
 }
 
 /// The first decision of a match of the trick game, where the first two seats hold these cards, from bottom to top.
-fn dealt(
+fn dealt_view(
     rt: &(impl AllocGlobal + Abort),
     deal: u64,
     first: &[u16],
@@ -79,7 +79,7 @@ const HAND: &[u16] = &[23, 20, 25, 12, 34, 32];
 
 /// Fails unless all is the same in a deal that differs only in cards which the first seat doesn't see.
 fn expect_alike(rt: &(impl AllocGlobal + Abort), one: &Decision) -> Result<(), Fail> {
-    let alike = dealt(rt, 904_383, HAND, &[10, 27, 9, 22, 16, 33])?;
+    let alike = dealt_view(rt, 904_383, HAND, &[10, 27, 9, 22, 16, 33])?;
     assert!(rt; !are_same_tables(&one.table, &alike.table));
     assert!(rt; are_same_menus(&one.menu, &alike.menu));
     assert!(rt; are_same_views(&one.view, &alike.view));
@@ -89,7 +89,7 @@ fn expect_alike(rt: &(impl AllocGlobal + Abort), one: &Decision) -> Result<(), F
 
 /// Fails unless the view is another one in a deal that differs in a card of the first seat's own.
 fn expect_other(rt: &(impl AllocGlobal + Abort), one: &Decision) -> Result<(), Fail> {
-    let other = dealt(rt, 17_525, &[23, 20, 25, 12, 2, 32], &[28, 3, 13, 10, 5, 6])?;
+    let other = dealt_view(rt, 17_525, &[23, 20, 25, 12, 2, 32], &[28, 3, 13, 10, 5, 6])?;
     assert!(rt; !are_same_views(&one.view, &other.view));
     assert!(rt; one.key.as_slice() != other.key.as_slice());
     Ok(())
@@ -98,7 +98,7 @@ fn expect_other(rt: &(impl AllocGlobal + Abort), one: &Decision) -> Result<(), F
 /// The hands were made by a ChaCha8 written apart from this program.
 #[test]
 fn a_seat_sees_its_own_cards_alone(rt: HostRuntime) -> Result<(), Fail> {
-    let one = dealt(&rt, 37_085, HAND, &[8, 16, 22, 31, 14, 13])?;
+    let one = dealt_view(&rt, 37_085, HAND, &[8, 16, 22, 31, 14, 13])?;
     expect_same(&rt, one.menu.len(), 6);
     expect_alike(&rt, &one)?;
     expect_other(&rt, &one)

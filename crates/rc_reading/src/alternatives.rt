@@ -63,7 +63,7 @@ impl Reader {
     }
 
     /// Effects, as an alternative.
-    fn unguarded(&self, alloc: Global, scope: &Scope, effects: &[Form]) -> Result<Alt, Unread>
+    fn do_alternative(&self, alloc: Global, scope: &Scope, effects: &[Form]) -> Result<Alt, Unread>
         ensures { Gives alt_seen result
             (option_map do_alt (reading.effects_at self.now scope.now (packed (trees_of effects.now)))) }
     {
@@ -72,7 +72,7 @@ impl Reader {
     }
 
     /// Effects that a test guards, as an alternative.
-    fn guarded(
+    fn if_alternative(
         &self,
         alloc: Global,
         scope: &Scope,
@@ -101,8 +101,8 @@ impl Reader {
         ensures { Gives alt_seen result (reading.plain_alt self.now scope.now rule (packed (trees_of parts.now))) }
     {
         match rule {
-            Rule::Do => self.unguarded(alloc, scope, &parts[1..]),
-            Rule::If => self.guarded(alloc, scope, &parts[1], &parts[2..]),
+            Rule::Do => self.do_alternative(alloc, scope, &parts[1..]),
+            Rule::If => self.if_alternative(alloc, scope, &parts[1], &parts[2..]),
             _ => Err(Unread::Meaningless),
         }
     }

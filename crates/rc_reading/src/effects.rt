@@ -198,7 +198,7 @@ impl Reader {
     }
 
     /// These effects, where they were read, so many times.
-    fn repeated(
+    fn repeat_of(
         &self,
         alloc: Global,
         scope: &Scope,
@@ -210,7 +210,7 @@ impl Reader {
             (both (int_at self.now scope.now (tree_of count.now)) read)) }
     {
         let count = self.integer(alloc, scope, count)?;
-        Ok(Effect::repeated(count, effects?))
+        Ok(Effect::repeat(count, effects?))
     }
 
     /// Players or cards, the number of the variable that runs over them, and the scope behind it.
@@ -255,7 +255,7 @@ impl Reader {
             }
             Rule::Repeat => {
                 let effects = self.effects(alloc, scope, &parts[2..]);
-                self.repeated(alloc, scope, &parts[1], effects)
+                self.repeat_of(alloc, scope, &parts[1], effects)
             }
             Rule::Each => {
                 let (domain, bound, inner) = self.members(alloc, scope, &parts[1], &parts[2])?;

@@ -426,11 +426,11 @@ impl Reader {
                 Ok(Test::Not(test))
             }
             Rule::ForAll => {
-                let (domain, (bound, test)) = self.quantified(alloc, scope, parts)?;
+                let (domain, (bound, test)) = self.quantified_test(alloc, scope, parts)?;
                 Ok(Test::All(domain, bound, test))
             }
             Rule::ForAny => {
-                let (domain, (bound, test)) = self.quantified(alloc, scope, parts)?;
+                let (domain, (bound, test)) = self.quantified_test(alloc, scope, parts)?;
                 Ok(Test::Any(domain, bound, test))
             }
             _ => Err(Unread::Meaningless),
@@ -514,7 +514,7 @@ impl Reader {
 
     /// What a variable behind a head runs over, the number of its word, and a test for it.
     #[cycle(reading)]
-    fn quantified(
+    fn quantified_test(
         &self,
         alloc: Global,
         scope: &Scope,

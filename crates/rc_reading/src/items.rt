@@ -258,7 +258,7 @@ impl Reader {
         match rule {
             Rule::Scoring => {
                 let best = best_at(&parts[1])?;
-                let value = self.integer(alloc, &Scope::scored(alloc)?, &parts[2])?;
+                let value = self.integer(alloc, &Scope::of_score(alloc)?, &parts[2])?;
                 Ok((best, value))
             }
             _ => Err(Unread::Meaningless),

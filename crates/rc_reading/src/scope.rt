@@ -49,7 +49,7 @@ impl Scope {
     }
 
     /// What is bound around the score: the player who is scored is `'SELF`.
-    pub fn scored(alloc: Global) -> Result<Scope, Unread>
+    pub fn of_score(alloc: Global) -> Result<Scope, Unread>
         ensures scope { IfOk result (λ scope. scope ≡ self_scope) }
         ensures memory { OnErr result (result ≡ Err Memory) }
     {

@@ -78,7 +78,7 @@ fn equal_numbers(alloc: Global, a: IntExpr, b: Side) -> Result<Test, Unread>
     let Side::Number(b) = b else {
         return Err(Unread::Meaningless);
     };
-    let (a, b) = boxed(alloc, a, b)?;
+    let (a, b) = box_pair(alloc, a, b)?;
     Ok(Test::EqInt(a, b))
 }
 
@@ -89,7 +89,7 @@ fn equal_cards(alloc: Global, a: CardExpr, b: Side) -> Result<Test, Unread>
     let Side::Card(b) = b else {
         return Err(Unread::Meaningless);
     };
-    let (a, b) = boxed(alloc, a, b)?;
+    let (a, b) = box_pair(alloc, a, b)?;
     Ok(Test::EqCard(a, b))
 }
 
@@ -100,7 +100,7 @@ fn equal_values(alloc: Global, a: CardExpr, attr: u16, b: Side) -> Result<Test, 
     let Side::Value(b, other) = b else {
         return Err(Unread::Meaningless);
     };
-    let (a, b) = boxed(alloc, a, b)?;
+    let (a, b) = box_pair(alloc, a, b)?;
     Ok(Test::EqAttr(a, attr, b, other))
 }
 
@@ -118,7 +118,7 @@ fn equal_owners(a: Who, b: Side) -> Result<Test, Unread>
 }
 
 /// Two values, each in a box.
-fn boxed<A: Drop, B: Drop>(alloc: Global, a: A, b: B) -> Result<(Box<A>, Box<B>), Unread>
+fn box_pair<A: Drop, B: Drop>(alloc: Global, a: A, b: B) -> Result<(Box<A>, Box<B>), Unread>
     ensures first { IfOk result (λ boxes. boxes.0.value ≡ a) }
     ensures second { IfOk result (λ boxes. boxes.1.value ≡ b) }
     ensures memory { OnErr result (result ≡ Err Memory) }

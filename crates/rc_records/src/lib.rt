@@ -9,4 +9,4 @@ mod series;
 pub use about::shared_about;
 pub use laws::looks_are_rollout_picks;
 pub use records::{record_of, records_of};
-pub use series::{Series, told};
+pub use series::{Series, series_from};

@@ -23,7 +23,7 @@ pub struct Series {
 }
 
 /// These matches of a plan, with their standings, what was noted of them, and these totals. Memory may run out.
-pub fn told(
+pub fn series_from(
     alloc: Global,
     plan: &Plan,
     noted: bool,
@@ -43,7 +43,7 @@ pub fn told(
     ensures bounds { IfOk result (λ series. series.named.bounds.items ≡ lists_of noted played.items) }
     ensures totals { IfOk result (λ series. series.totals ≡ totals) }
 {
-    let (matches, bounds) = parted(alloc, noted, played)?;
+    let (matches, bounds) = split_played(alloc, noted, played)?;
     let standings = standings(alloc, plan, &matches)?;
     let text = HouseText { matches, standings };
     Ok(Series {
@@ -53,7 +53,7 @@ pub fn told(
 }
 
 // The records, and beside them the lists of what was noted, if any was.
-fn parted(
+fn split_played(
     alloc: Global,
     noted: bool,
     played: Vec<Played>,

@@ -43,7 +43,7 @@ fn list_for(
 }
 
 /// What the locations hold, with these ids for the known places in order and these for the others in order.
-pub(crate) fn filled(
+pub(crate) fn fill_lists(
     alloc: Global,
     shape: &Shape,
     sights: &[Sight],
@@ -77,7 +77,11 @@ pub(crate) fn filled(
 }
 
 /// The locations that have card places which aren't known.
-pub(crate) fn hiding(alloc: Global, shape: &Shape, sights: &[Sight]) -> Result<Vec<u16>, Memory>
+pub(crate) fn hiding_locations(
+    alloc: Global,
+    shape: &Shape,
+    sights: &[Sight],
+) -> Result<Vec<u16>, Memory>
     requires { length sights.now ≡ length shape.now.places }
     ensures { IfOk result (λ locs. locs.items ≡ hiding_from 0 (mems_of shape.now.places) (map sight_seen sights.now)) }
 {

@@ -5,7 +5,7 @@ ghost use Rattle.rc_play_model.specs.Redraw.{mems_of, seen_faces, seen_ids, unus
 ghost use Rattle.rc_play_model.specs.Smallest.{AreEnough};
 ghost use Rattle.rc_view.specs.Seen.{sight_seen};
 
-use crate::filling::filled;
+use crate::filling::fill_lists;
 use crate::hidden::left_by;
 use crate::seen::{faces_seen, taken_for};
 use rc_deck::Memory;
@@ -44,7 +44,7 @@ pub(crate) fn layout_of(alloc: Global, shape: &Shape, sights: &[Sight]) -> Resul
     let faces = faces_seen(alloc, shape, sights)?;
     let taken = taken_for(alloc, shape, &faces)?;
     let unused = left_by(alloc, shape, &taken)?;
-    let lists = filled(alloc, shape, sights, &taken.ids, &unused)?;
+    let lists = fill_lists(alloc, shape, sights, &taken.ids, &unused)?;
     Ok(Layout {
         lists,
         seen: taken.ids,

@@ -9,7 +9,7 @@ ghost use Rattle.rc_play_model.specs.View.{view_of};
 ghost use Rattle.rc_redraw.specs.Redraws.{redealt};
 ghost use Rattle.rc_view.specs.Seen.{view_seen};
 
-use crate::filling::{hiding, patterns};
+use crate::filling::{hiding_locations, patterns};
 use crate::layout::{Layout, layout_of};
 use crate::marks::marks_known;
 use crate::places::blend;
@@ -81,7 +81,7 @@ impl<'v> Redraws<'v> {
         let marks = marks_known(alloc, shape, &view.sights, &seen, view.seat)?;
         let mut table = Table::new(alloc, shape)?;
         table.lay(&lists, &view.numbers, &marks);
-        let hidden = hiding(alloc, shape, &view.sights)?;
+        let hidden = hiding_locations(alloc, shape, &view.sights)?;
         let pattern = patterns(alloc, shape, &view.sights, &seen)?;
         let content = vec![in alloc; 0; pattern.len()]?;
         let order = Vec::from_slice(alloc, &unused)?;

@@ -55,11 +55,11 @@ pub fn rivals_of(
     let about = shared_about(alloc, checked, plan.turns)?;
     let code = shared_code(alloc, &about)?;
     let plan = Arc::new(alloc, plan)?;
-    told::<Brand>(alloc, Fresh::new(1), &about, &plan, &code, rival)
+    write_rivals::<Brand>(alloc, Fresh::new(1), &about, &plan, &code, rival)
 }
 
 // The text of a plan's matches, which are played over a new book.
-fn told<N: BookNaming>(
+fn write_rivals<N: BookNaming>(
     alloc: Global,
     fresh: Fresh,
     about: &Arc<About>,

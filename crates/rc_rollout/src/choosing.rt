@@ -17,7 +17,7 @@ use rc_code::Code;
 use rc_deck::Memory;
 use rc_play_model::tallies_are_bounded;
 use rc_redraw::{Ask, Key, Memo, Need, Reply};
-use rc_rules::{Strategy, made_by, picked, scripted};
+use rc_rules::{Strategy, keyed_pick, made_by, scripted_item};
 use rc_steps::Steps;
 use std::alloc::Global;
 use std::sync::Arc;
@@ -50,12 +50,12 @@ pub fn choose<M: Memo, L: Ledger>(
 {
     let view = &need.view;
     match &need.strategy {
-        Strategy::Script(numbers) => Ok(scripted(
+        Strategy::Script(numbers) => Ok(scripted_item(
             numbers,
             made_by(&view.control, view.seat),
             need.menu,
         )),
-        Strategy::Random { key } => Ok(picked(
+        Strategy::Random { key } => Ok(keyed_pick(
             *key,
             need.seed,
             view.seat,
@@ -76,12 +76,12 @@ pub fn offhand_item(need: &Need) -> Option<u16>
 {
     let view = &need.view;
     match &need.strategy {
-        Strategy::Script(numbers) => Some(scripted(
+        Strategy::Script(numbers) => Some(scripted_item(
             numbers,
             made_by(&view.control, view.seat),
             need.menu,
         )),
-        Strategy::Random { key } => Some(picked(
+        Strategy::Random { key } => Some(keyed_pick(
             *key,
             need.seed,
             view.seat,

@@ -13,6 +13,6 @@ use std::sync::Arc;
 pub fn shared_code(alloc: Global, about: &About) -> Result<Arc<Code>, Memory>
     ensures { IfOk result (λ code. StandsFor about.now.sheet (code_seen code.value)) }
 {
-    let code = compile(alloc, about.checked())?;
+    let code = compile(alloc, about.checked_sheet())?;
     Ok(Arc::new(alloc, code)?)
 }

@@ -84,7 +84,7 @@ impl About {
     }
 
     /// The sheet as it was checked.
-    pub fn checked(&self) -> &Arc<Checked>
+    pub fn checked_sheet(&self) -> &Arc<Checked>
         ensures { result.now.value ≡ self.now.sheet }
     {
         &self.checked

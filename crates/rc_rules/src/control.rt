@@ -40,14 +40,16 @@ impl Control {
     {
         Control {
             site: self.site,
-            frames: copied(&self.frames),
+            frames: copy_list(&self.frames),
             turn: self.turn,
-            made: copied(&self.made),
+            made: copy_list(&self.made),
         }
     }
 }
 
-fn copied<T: Copy + Default + Drop, const CAP: usize>(list: &ArrayVec<T, CAP>) -> ArrayVec<T, CAP>
+fn copy_list<T: Copy + Default + Drop, const CAP: usize>(
+    list: &ArrayVec<T, CAP>,
+) -> ArrayVec<T, CAP>
     ensures { result.items ≡ list.now.items }
 {
     let mut copy = ArrayVec::new();

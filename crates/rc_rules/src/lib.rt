@@ -27,7 +27,7 @@ pub use dealer::{Dealer, MatchDealer};
 pub use lookup::Lookup;
 pub use machine::Machine;
 pub use menu::{Item, Items, Menu, Scores, Spots};
-pub use offhand::{made_by, offhand_of, picked, scripted};
+pub use offhand::{keyed_pick, made_by, offhand_of, scripted_item};
 pub use onward::go_on;
 pub use plan::{Deal, Plan, Strategy};
 pub use points::{rank_points, rank_points_of};

@@ -25,8 +25,8 @@ pub fn offhand_of(
     ensures below { IfSome result (λ item. item < size) }
 {
     match strategy {
-        Strategy::Script(numbers) => Some(scripted(numbers, made_by(control, seat), size)),
-        Strategy::Random { key } => Some(picked(*key, seed, seat, control.turn, size)),
+        Strategy::Script(numbers) => Some(scripted_item(numbers, made_by(control, seat), size)),
+        Strategy::Random { key } => Some(keyed_pick(*key, seed, seat, control.turn, size)),
         Strategy::Rollout { .. } => None,
     }
 }
@@ -42,7 +42,7 @@ pub fn made_by(control: &Control, seat: u8) -> u32
 }
 
 /// The script's number for the decision, modulo the size of the menu; behind the last number it is 0.
-pub fn scripted(numbers: &[u16], decision: u32, size: u16) -> u16
+pub fn scripted_item(numbers: &[u16], decision: u32, size: u16) -> u16
     requires { 0 < size }
     ensures is { result ≡ scripted_item numbers.now decision size }
     ensures below { result < size }
@@ -54,7 +54,7 @@ pub fn scripted(numbers: &[u16], decision: u32, size: u16) -> u16
 }
 
 /// The pick below the size by the key of the strategy's key, the seat, the seed and the turn count.
-pub fn picked(key: u64, seed: u64, seat: u8, turn: u32, size: u16) -> u16
+pub fn keyed_pick(key: u64, seed: u64, seat: u8, turn: u32, size: u16) -> u16
     requires { 0 < size }
     ensures is { result ≡ keyed.pick key (drawn_for seat picks) seed turn size }
     ensures below { result < size }

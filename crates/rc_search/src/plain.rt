@@ -57,7 +57,7 @@ pub(crate) fn behind<L: Ledger>(
     steps.add(1);
     count_one(applied);
     let stop = machine.advance(&mut dealer)?;
-    let made = dealer.made();
+    let made = dealer.shuffle_count();
     let found = worth(
         about, way, depth, stop, made, machine, rooms, steps, applied,
     )?;

@@ -136,7 +136,7 @@ fn item_of<C: Chooser, L: Ledger>(
     ensures same { (about : PureAbout) → C.serves chooser.old about → C.serves chooser.new about }
 {
     if holds(job, need.view.seat, rival.strategy) {
-        searched(alloc, code, rival, need, steps)
+        search_item(alloc, code, rival, need, steps)
     } else {
         chooser.choose(alloc, need, steps)
     }
@@ -151,7 +151,7 @@ fn holds(job: &Job, seat: u8, strategy: u8) -> bool
 }
 
 // The item that the search chooses.
-fn searched<L: Ledger>(
+fn search_item<L: Ledger>(
     alloc: Global,
     code: &Arc<Code>,
     rival: &Rival,

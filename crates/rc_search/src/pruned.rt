@@ -67,7 +67,7 @@ pub(crate) fn behind_within<L: Ledger>(
     steps.add(1);
     count_one(applied);
     let stop = machine.advance(&mut dealer)?;
-    let made = dealer.made();
+    let made = dealer.shuffle_count();
     let found = worth_within(
         about, sides, way, depth, stop, made, low, high, machine, rooms, steps, applied,
     )?;
@@ -112,11 +112,11 @@ fn worth_within<L: Ledger>(
     ensures told { OnOk result (Tells applied.old applied.new steps.old steps.new) }
 {
     match stop {
-        Stop::Done => Ok(bounded(points_of(about, sides, way.seat, machine), low, high)),
-        Stop::Limit => Ok(bounded(points_of(about, sides, way.seat, machine), low, high)),
+        Stop::Done => Ok(bound_points(points_of(about, sides, way.seat, machine), low, high)),
+        Stop::Limit => Ok(bound_points(points_of(about, sides, way.seat, machine), low, high)),
         Stop::Decide { seat, site } => {
             if depth == 0 {
-                return Ok(bounded(points_of(about, sides, way.seat, machine), low, high));
+                return Ok(bound_points(points_of(about, sides, way.seat, machine), low, high));
             }
             if is_mate(about.sheet(), sides, way.seat, seat) {
                 most_within(
@@ -265,7 +265,7 @@ fn least_within<L: Ledger>(
 }
 
 // A number, or the bound that it passes.
-fn bounded(points: u8, low: u8, high: u8) -> u8
+fn bound_points(points: u8, low: u8, high: u8) -> u8
     ensures { result ≡ bounded_to low high points }
 {
     points.min(high).max(low)

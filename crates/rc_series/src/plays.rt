@@ -20,7 +20,7 @@ use rc_cache::{
 use rc_code::Code;
 use rc_deck::Memory;
 use rc_flow::Checked;
-use rc_records::{Series, records_of, shared_about, told};
+use rc_records::{Series, records_of, series_from, shared_about};
 use rc_rollout::{Choices, shared_code};
 use rc_rules::{About, Plan};
 use rc_steps::Steps;
@@ -62,7 +62,7 @@ pub fn series_of<L: Ledger>(
     let about = shared_about(alloc, checked, plan.turns)?;
     let code = shared_code(alloc, &about)?;
     let plan = Arc::new(alloc, plan)?;
-    played::<Brand, L>(
+    play_plan::<Brand, L>(
         alloc,
         Fresh::new(1),
         &about,
@@ -75,7 +75,7 @@ pub fn series_of<L: Ledger>(
 }
 
 // The matches of a plan, with a book of so many entries, and the standings.
-fn played<N: BookNaming, L: Ledger>(
+fn play_plan<N: BookNaming, L: Ledger>(
     alloc: Global,
     fresh: Fresh,
     about: &Arc<About>,
@@ -114,7 +114,7 @@ fn played<N: BookNaming, L: Ledger>(
     // before the match, so that the book is closed also where memory ran out
     let totals = choices.into_memo().close();
     match records {
-        Ok(matches) => Ok(told(alloc, plan, noted, matches, totals)?),
+        Ok(matches) => Ok(series_from(alloc, plan, noted, matches, totals)?),
         Err(Memory) => Err(Memory),
     }
 }

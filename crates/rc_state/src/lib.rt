@@ -20,7 +20,7 @@ mod shuffles;
 mod stages;
 
 pub use asked::asked_now;
-pub use change::{Change, changed};
+pub use change::{Change, changed_number};
 pub use context::{Context, scene_now};
 pub use counting::{count_decision, member_count, new_control};
 pub use cycling::{class_of, name_next, turn_round};

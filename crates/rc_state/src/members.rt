@@ -118,7 +118,7 @@ fn group_at(
     let mut room = Cards::new();
     cards_now(context, cards, table, frames, &mut room);
     let scene = scene_now(context, table, frames);
-    let all = Collection::built(room.as_slice());
+    let all = Collection::of_cards(room.as_slice());
     let mut values = Values::new();
     note_values(&scene, &all, attr, &mut values);
     if (spot as usize) < values.len() {

@@ -167,14 +167,14 @@ impl Table {
         // what is known of a sound table
         let _shape = self.shape();
         let mut list = [0; MOST_IN_LIST];
-        let count = reordered(self.list(loc), order, &mut list);
+        let count = put_in_order(self.list(loc), order, &mut list);
         self.marks.clear_all(self.lists.list(loc));
         self.relist(loc, &list[..count]);
     }
 }
 
 // Writes a list in another order, and tells its length.
-fn reordered(list: &[u16], order: &[u16], room: &mut [u16]) -> usize
+fn put_in_order(list: &[u16], order: &[u16], room: &mut [u16]) -> usize
     requires fits { length list.now ≤ length room.old }
     requires order { IsPermutation (below (length list.now)) order.now }
     ensures count { result ≡ length list.now }

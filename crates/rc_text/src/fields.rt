@@ -57,7 +57,7 @@ pub fn number<'a>(word: &[u8], most: u64, bytes: &'a [u8]) -> Option<(u64, &'a [
 }
 
 /// A number of 1 to `most` behind a word, and the bytes behind it.
-pub fn counted<'a>(word: &[u8], most: u64, bytes: &'a [u8]) -> Option<(u64, &'a [u8])>
+pub fn counted_number<'a>(word: &[u8], most: u64, bytes: &'a [u8]) -> Option<(u64, &'a [u8])>
     requires small { most < 2 ^ 60 }
     ensures found { Finds (λ x. (x.0, x.1.now)) result (counted word.now most bytes.now) }
     ensures within { IfSome result (λ x. x.0 ≤ most) }

@@ -7,7 +7,7 @@ ghost use Rattle.std.specs.Prelude.{◌≡◌, true, IfSome, IsSome};
 ghost use Rattle.rc_text.specs.LineSeen.{line_seen, marked_seen, choice_seen, IsTold, IsBare};
 
 use crate::bounds::bounds_in;
-use crate::fields::{counted, integer, number};
+use crate::fields::{counted_number, integer, number};
 use rc_names::limits::{LARGEST_SEED, MOST_ITEMS, MOST_TURNS};
 use rc_rules::{Bounds, Ended, Pick, Score, Standing};
 
@@ -83,7 +83,7 @@ pub fn choice_in(named: bool, bytes: &[u8]) -> Option<(Pick, Option<Bounds>)>
     let (seat, rest) = number(b"choose ", 7, bytes)?;
     let (site, rest) = number(b" ", 63, rest)?;
     let (item, rest) = number(b" ", 255, rest)?;
-    let (size, rest) = counted(b" ", MOST_ITEMS as u64, rest)?;
+    let (size, rest) = counted_number(b" ", MOST_ITEMS as u64, rest)?;
     let pick = Pick {
         seat: seat as u8,
         site: site as u8,
@@ -104,7 +104,7 @@ fn shuffled_in(bytes: &[u8]) -> Option<Line>
     ensures found { Finds line_seen result (shuffled_in bytes.now) }
     ensures bare { IfSome result IsBare }
 {
-    let (shuffles, rest) = counted(b"shuffles ", 4_294_967_295, bytes)?;
+    let (shuffles, rest) = counted_number(b"shuffles ", 4_294_967_295, bytes)?;
     last(Line::Shuffled(shuffles as u32), rest)
 }
 
@@ -151,7 +151,7 @@ fn ranked_in(bytes: &[u8]) -> Option<Line>
     ensures found { Finds line_seen result (ranked_in bytes.now) }
     ensures bare { IfSome result IsBare }
 {
-    let (place, rest) = counted(b"standing ", 8, bytes)?;
+    let (place, rest) = counted_number(b"standing ", 8, bytes)?;
     let (strategy, rest) = number(b" strategy ", 7, rest)?;
     let (points, rest) = number(b" points ", 57_344, rest)?;
     let standing = Standing {

@@ -87,7 +87,7 @@ fn behind_header(alloc: Global, line: Line) -> Option<Progress>
             deal,
             seats,
         } => {
-            let first = opened(alloc, number, deal, seats);
+            let first = open_match(alloc, number, deal, seats);
             let before = Matches {
                 records: Vec::new(alloc),
                 bounds: Vec::new(alloc),
@@ -179,7 +179,7 @@ fn behind_score(
             seats,
         } => {
             before.close(played)?;
-            let next = opened(alloc, number, deal, seats);
+            let next = open_match(alloc, number, deal, seats);
             Ok(Some(Progress::Playing(before, next)))
         }
         Line::Ranked(standing) => {
@@ -243,7 +243,7 @@ impl OpenMatch {
 }
 
 /// A match of which only the first line is read.
-fn opened(alloc: Global, number: u32, deal: u64, seats: u64) -> OpenMatch
+fn open_match(alloc: Global, number: u32, deal: u64, seats: u64) -> OpenMatch
     ensures record { record_seen result.record ≡ opened number deal seats }
     ensures marks { open_marks result ≡ [] }
     ensures fit { IsFit result }

@@ -55,7 +55,7 @@ impl<'s> Collection<'s> {
     }
 
     /// These cards.
-    pub fn built(cards: &'s [Card]) -> Collection<'s>
+    pub fn of_cards(cards: &'s [Card]) -> Collection<'s>
         requires few { length cards.now ≤ most_in_collection }
         ensures { result ≡ values_seen cards.now }
     {

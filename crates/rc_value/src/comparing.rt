@@ -30,18 +30,18 @@ pub(crate) fn suited_of(scene: &Scene, scope: &Bindings, test: &Test) -> Option<
     ensures { IfSome result (IsSuited (scene_seen scene.now) scope.now (test_seen test.now)) }
 {
     match test {
-        Test::EqInt(a, b) => paired(scene, scope, a, Comparator::Equal, b),
-        Test::Less(a, b) => paired(scene, scope, a, Comparator::Less, b),
-        Test::LessEq(a, b) => paired(scene, scope, a, Comparator::AtMost, b),
-        Test::More(a, b) => paired(scene, scope, a, Comparator::More, b),
-        Test::MoreEq(a, b) => paired(scene, scope, a, Comparator::AtLeast, b),
+        Test::EqInt(a, b) => comparison_of(scene, scope, a, Comparator::Equal, b),
+        Test::Less(a, b) => comparison_of(scene, scope, a, Comparator::Less, b),
+        Test::LessEq(a, b) => comparison_of(scene, scope, a, Comparator::AtMost, b),
+        Test::More(a, b) => comparison_of(scene, scope, a, Comparator::More, b),
+        Test::MoreEq(a, b) => comparison_of(scene, scope, a, Comparator::AtLeast, b),
         _ => None,
     }
 }
 
 // The same of two numbers, of which either may be his.
 #[inline(always)]
-fn paired(
+fn comparison_of(
     scene: &Scene,
     scope: &Bindings,
     a: &IntExpr,
@@ -53,7 +53,7 @@ fn paired(
     match his_number(a, scope.len()) {
         Some(name) => against(scene, scope, name, how, b),
         None => match his_number(b, scope.len()) {
-            Some(name) => against(scene, scope, name, turned(how), a),
+            Some(name) => against(scene, scope, name, turn_comparison(how), a),
             None => None,
         },
     }
@@ -61,7 +61,7 @@ fn paired(
 
 // The same comparison, told of the other number.
 #[inline(always)]
-fn turned(how: Comparator) -> Comparator
+fn turn_comparison(how: Comparator) -> Comparator
     ensures { result ≡ turned how }
 {
     match how {
@@ -176,12 +176,16 @@ pub(crate) fn any_suit(scene: &Scene, suited: Suited) -> bool
 fn does_suit(scene: &Scene, suited: Suited, player: u8) -> bool
     ensures { result ≡ suits (scene_seen scene.now) suited player }
 {
-    compare(suited.how, held(scene, suited.name, player), suited.against)
+    compare(
+        suited.how,
+        number_held_by(scene, suited.name, player),
+        suited.against,
+    )
 }
 
 // A player's number of a name, and 0 where he has none.
 #[inline(always)]
-fn held(scene: &Scene, name: u16, player: u8) -> i64
+fn number_held_by(scene: &Scene, name: u16, player: u8) -> i64
     ensures { result ≡ number_held (scene_seen scene.now) name player }
 {
     match scene.lookup.number(name, Class::Player, player) {

@@ -139,7 +139,7 @@ fn add_built(scene: &Scene, scope: &Bindings, expr: &CollExpr, out: &mut Cards)
 {
     let mut room = Cards::new();
     coll_of(scene, scope, expr, &mut room);
-    append(out, &Collection::built(room.as_slice()));
+    append(out, &Collection::of_cards(room.as_slice()));
 }
 
 /// The card that an expression stands for.
@@ -152,8 +152,8 @@ pub fn card_of(scene: &Scene, scope: &Bindings, expr: &CardExpr) -> Option<Card>
         CardExpr::Var(var) => scope.card(*var),
         CardExpr::Top(cards) => top_of(scene, scope, cards),
         CardExpr::Bottom(cards) => bottom_of(scene, scope, cards),
-        CardExpr::Max(cards, map) => picked(scene, scope, cards, Which::Max(*map)),
-        CardExpr::Min(cards, map) => picked(scene, scope, cards, Which::Min(*map)),
+        CardExpr::Max(cards, map) => pick_card(scene, scope, cards, Which::Max(*map)),
+        CardExpr::Min(cards, map) => pick_card(scene, scope, cards, Which::Min(*map)),
     }
 }
 
@@ -166,7 +166,7 @@ fn top_of(scene: &Scene, scope: &Bindings, expr: &CollExpr) -> Option<Card>
 {
     match expr {
         CollExpr::Loc(loc) => top_card(scene, scope, loc),
-        _ => picked(scene, scope, expr, Which::Top),
+        _ => pick_card(scene, scope, expr, Which::Top),
     }
 }
 
@@ -179,7 +179,7 @@ fn bottom_of(scene: &Scene, scope: &Bindings, expr: &CollExpr) -> Option<Card>
 {
     match expr {
         CollExpr::Loc(loc) => bottom_card(scene, scope, loc),
-        _ => picked(scene, scope, expr, Which::Bottom),
+        _ => pick_card(scene, scope, expr, Which::Bottom),
     }
 }
 
@@ -206,7 +206,7 @@ fn id_at_top(scene: &Scene, scope: &Bindings, expr: &CollExpr) -> Option<u16>
 {
     match expr {
         CollExpr::Loc(loc) => top_id(scene, scope, loc),
-        _ => id_or_none(picked(scene, scope, expr, Which::Top)),
+        _ => id_or_none(pick_card(scene, scope, expr, Which::Top)),
     }
 }
 
@@ -218,7 +218,7 @@ fn id_at_bottom(scene: &Scene, scope: &Bindings, expr: &CollExpr) -> Option<u16>
 {
     match expr {
         CollExpr::Loc(loc) => bottom_id(scene, scope, loc),
-        _ => id_or_none(picked(scene, scope, expr, Which::Bottom)),
+        _ => id_or_none(pick_card(scene, scope, expr, Which::Bottom)),
     }
 }
 
@@ -257,7 +257,7 @@ fn points_of(scene: &Scene, scope: &Bindings, expr: &CardExpr, map: u16) -> i64
 }
 
 #[cycle(values)]
-fn picked(scene: &Scene, scope: &Bindings, expr: &CollExpr, pick: Which) -> Option<Card>
+fn pick_card(scene: &Scene, scope: &Bindings, expr: &CollExpr, pick: Which) -> Option<Card>
     requires fits { length scope.now + coll_depth (coll_seen expr.now) ≤ 5 }
     ensures { option_map value_seen result
         ≡ picked_of (scene_seen scene.now) pick (coll_value (scene_seen scene.now) scope.now (coll_seen expr.now)) }
@@ -277,7 +277,7 @@ fn picked_built(scene: &Scene, scope: &Bindings, expr: &CollExpr, pick: Which) -
 {
     let mut room = Cards::new();
     coll_of(scene, scope, expr, &mut room);
-    pick_from(scene, &Collection::built(room.as_slice()), pick)
+    pick_from(scene, &Collection::of_cards(room.as_slice()), pick)
 }
 
 /// The number that an expression stands for.
@@ -305,9 +305,9 @@ fn int_asked(scene: &Scene, scope: &Bindings, expr: &IntExpr) -> i64
         IntExpr::Size(cards) => count_of(scene, scope, cards) as i64,
         IntExpr::Sum(cards, map) => sum_of(scene, scope, cards, *map),
         IntExpr::Points(card, map) => points_of(scene, scope, card, *map),
-        IntExpr::Add(_, _) => calculated(scene, scope, expr),
-        IntExpr::Sub(_, _) => calculated(scene, scope, expr),
-        IntExpr::Mul(_, _) => calculated(scene, scope, expr),
+        IntExpr::Add(_, _) => arithmetic_value(scene, scope, expr),
+        IntExpr::Sub(_, _) => arithmetic_value(scene, scope, expr),
+        IntExpr::Mul(_, _) => arithmetic_value(scene, scope, expr),
     }
 }
 
@@ -315,7 +315,7 @@ fn int_asked(scene: &Scene, scope: &Bindings, expr: &IntExpr) -> i64
 // meanwhile.
 #[cycle(values)]
 #[inline(never)]
-fn calculated(scene: &Scene, scope: &Bindings, expr: &IntExpr) -> i64
+fn arithmetic_value(scene: &Scene, scope: &Bindings, expr: &IntExpr) -> i64
     requires made { is_calculated (int_seen expr.now) ≡ true }
     requires fits { length scope.now + int_depth (int_seen expr.now) ≤ 5 }
     ensures { result ≡ int_value (scene_seen scene.now) scope.now (int_seen expr.now) }
@@ -416,5 +416,5 @@ fn sum_built(scene: &Scene, scope: &Bindings, expr: &CollExpr, map: u16) -> i64
 {
     let mut room = Cards::new();
     coll_of(scene, scope, expr, &mut room);
-    sum(scene, &Collection::built(room.as_slice()), map)
+    sum(scene, &Collection::of_cards(room.as_slice()), map)
 }

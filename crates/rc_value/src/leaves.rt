@@ -160,6 +160,6 @@ pub fn cards_of<'a>(scene: &'a Scene, scope: &Bindings, loc: &Loc) -> Collection
 {
     match loc_at(scene, scope, loc) {
         Some(loc) => Collection::there(scene.table.list(loc), mem_at(scene.table.shape(), loc)),
-        None => Collection::built(&[]),
+        None => Collection::of_cards(&[]),
     }
 }

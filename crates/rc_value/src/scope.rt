@@ -113,7 +113,7 @@ impl<'g> Bindings<'g> {
     {
         match self.bind(var) {
             Some(Bind::Group(cards)) => Collection::part(cards.as_slice()),
-            _ => Collection::built(&[]),
+            _ => Collection::of_cards(&[]),
         }
     }
 

@@ -10,7 +10,9 @@ use crate::collection::Collection;
 use crate::leaves::are_same;
 use crate::loops::{card_at, keep};
 use crate::scene::Scene;
-use crate::wanted::{WantedValue, all_as_wanted, count_met_in, counted, is_as_wanted, some_as_wanted};
+use crate::wanted::{
+    WantedValue, all_as_wanted, count_if, count_met_in, is_as_wanted, some_as_wanted,
+};
 use crate::{Card, Cards};
 
 /// A card whose face others are to have, or not to have. Where there is none, no card has its face.
@@ -131,7 +133,7 @@ fn count_one_by_one(scene: &Scene, sought: Sought, cards: &Collection) -> usize
 {
     let mut count = 0;
     for place in 0..cards.len() {
-        count = counted(count, is_as_sought(scene, sought, cards.at(place)));
+        count = count_if(count, is_as_sought(scene, sought, cards.at(place)));
     }
     count
 }

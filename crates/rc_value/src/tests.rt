@@ -20,7 +20,8 @@ use crate::scene::Scene;
 use crate::scope::{Bind, Bindings};
 use crate::sought::{Likeness, Sought, all_as_sought, opposite, some_as_sought};
 use crate::wanted::{
-    WantedValue, all_as_wanted, is_against, is_variable, some_as_wanted, unwanted, wanted_at_hand,
+    WantedValue, all_as_wanted, is_against, is_variable, opposite_of, some_as_wanted,
+    wanted_at_hand,
 };
 use crate::{Card, Cards};
 use rc_ast::{CardExpr, CollExpr, Domain, Test};
@@ -163,8 +164,8 @@ fn wanted_not(scene: &Scene, scope: &Bindings, inside: &Bindings, test: &Test) -
     ensures { IfSome result (IsWanted (scene_seen scene.now) scope.now (test_seen test.now)) }
 {
     match test {
-        Test::Ne(inner) => unwanted(wanted_of(scene, scope, inside, inner)),
-        Test::Not(inner) => unwanted(wanted_of(scene, scope, inside, inner)),
+        Test::Ne(inner) => opposite_of(wanted_of(scene, scope, inside, inner)),
+        Test::Not(inner) => opposite_of(wanted_of(scene, scope, inside, inner)),
         _ => None,
     }
 }
@@ -291,7 +292,7 @@ fn over_built(scene: &Scene, scope: &Bindings, expr: &Test) -> bool
             Domain::Players => unreachable!(),
             Domain::Coll(cards) => {
                 coll_of(scene, scope, cards, &mut room);
-                all_cards(scene, scope, &Collection::built(room.as_slice()), inner)
+                all_cards(scene, scope, &Collection::of_cards(room.as_slice()), inner)
             }
             Domain::Parts(_, _) => unreachable!(),
         },
@@ -299,7 +300,7 @@ fn over_built(scene: &Scene, scope: &Bindings, expr: &Test) -> bool
             Domain::Players => unreachable!(),
             Domain::Coll(cards) => {
                 coll_of(scene, scope, cards, &mut room);
-                any_card(scene, scope, &Collection::built(room.as_slice()), inner)
+                any_card(scene, scope, &Collection::of_cards(room.as_slice()), inner)
             }
             Domain::Parts(_, _) => unreachable!(),
         },

@@ -149,14 +149,14 @@ pub(crate) fn count_met_in(row: &[Option<u16>], wanted: WantedValue, ids: &[u16]
 {
     let mut count = 0;
     for place in 0..ids.len() {
-        count = counted(count, is_met_in(row, wanted, ids[place]));
+        count = count_if(count, is_met_in(row, wanted, ids[place]));
     }
     count
 }
 
 /// One more, where it passes.
 #[inline(always)]
-pub(crate) fn counted(count: usize, passes: bool) -> usize
+pub(crate) fn count_if(count: usize, passes: bool) -> usize
     requires { count < most_in_list }
     ensures { result ≡ (if passes then count + 1 else count) }
 {
@@ -184,7 +184,7 @@ pub(crate) fn is_against(expr: &CardExpr, other: &CardExpr, place: usize) -> boo
 
 /// The opposite of what is wanted.
 #[inline(always)]
-pub(crate) fn unwanted(wanted: Option<WantedValue>) -> Option<WantedValue>
+pub(crate) fn opposite_of(wanted: Option<WantedValue>) -> Option<WantedValue>
     ensures { result ≡ option_map turned wanted }
 {
     match wanted {
@@ -257,8 +257,8 @@ pub fn wanted_at(scene: &Scene, scope: &Bindings, place: usize, test: &Test) -> 
     ensures { IfSome result (IsWantedAt (scene_seen scene.now) place (test_seen test.now)) }
 {
     match test {
-        Test::Ne(inner) => unwanted(equal_at(scene, scope, place, inner)),
-        Test::Not(inner) => unwanted(equal_at(scene, scope, place, inner)),
+        Test::Ne(inner) => opposite_of(equal_at(scene, scope, place, inner)),
+        Test::Not(inner) => opposite_of(equal_at(scene, scope, place, inner)),
         _ => equal_at(scene, scope, place, test),
     }
 }

@@ -42,7 +42,7 @@ impl View {
         ensures { IfOk result (λ copy. view_seen copy ≡ view_seen self.now) }
     {
         let numbers = Vec::from_slice(alloc, &self.numbers)?;
-        let sights = copied(alloc, &self.sights)?;
+        let sights = copy_sights(alloc, &self.sights)?;
         Ok(View {
             seat: self.seat,
             control: self.control.copy(),
@@ -98,7 +98,7 @@ fn numbers_of(alloc: Global, table: &Table) -> Result<Vec<i64>, Memory>
 }
 
 // The same sights once more.
-fn copied(alloc: Global, sights: &[Sight]) -> Result<Vec<Sight>, Memory>
+fn copy_sights(alloc: Global, sights: &[Sight]) -> Result<Vec<Sight>, Memory>
     ensures { IfOk result (λ copy. map sight_seen copy.items ≡ map sight_seen sights.now) }
 {
     let mut copy = Vec::with_capacity(alloc, sights.len())?;

@@ -3,4 +3,4 @@
 
 mod watching;
 
-pub use watching::watched;
+pub use watching::watched_log;

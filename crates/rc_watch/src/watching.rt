@@ -29,7 +29,7 @@ use std::sync::{Arc, ledger};
 
 /// The log of a seat in a match of a plan. That match is played for a checked sheet, and no other one is. The plan is
 /// within the limits, and has a strategy for each player. Memory may run out.
-pub fn watched(
+pub fn watched_log(
     alloc: Global,
     checked: Checked,
     plan: Plan,
@@ -83,7 +83,7 @@ fn watched_alone<L: Ledger>(
     let _sheet = about.sheet();
     let _turns = about.turns();
     let played = record_alone::<L>(alloc, blank, about, plan, code, number)?;
-    told(alloc, about, code, &played, seat, number)
+    log_of_record(alloc, about, code, &played, seat, number)
 }
 
 // The record of a match that no other is played beside. Within one match no view is asked for twice, since the turn
@@ -122,7 +122,7 @@ fn record_alone<L: Ledger>(
 
 // The log of a seat in the match of this number, of which this is the record. There is a view for each choice, and only
 // those are made that the log tells.
-fn told(
+fn log_of_record(
     alloc: Global,
     about: &About,
     code: &Arc<Code>,

@@ -14,7 +14,7 @@ use rc_cache::{Book, BookNaming, Fresh, close};
 use rc_deck::Memory;
 use rc_flow::Checked;
 use rc_outside::Gate;
-use rc_records::{Series, shared_about, told};
+use rc_records::{Series, series_from, shared_about};
 use rc_rules::{About, Plan};
 use std::alloc::Global;
 use std::marker::Brand;
@@ -67,7 +67,7 @@ pub fn series_by_workers<R: Threads + Wait + Sync, G: Gate>(
         Ok(plan) => plan,
         Err(_) => return Err(Memory),
     };
-    played::<Brand, R, G>(
+    play_plan::<Brand, R, G>(
         rt,
         alloc,
         Fresh::new(workers),
@@ -81,7 +81,7 @@ pub fn series_by_workers<R: Threads + Wait + Sync, G: Gate>(
 }
 
 // The same, with a name for the book.
-fn played<N: BookNaming + Send + Sync, R: Threads + Wait + Sync, G: Gate>(
+fn play_plan<N: BookNaming + Send + Sync, R: Threads + Wait + Sync, G: Gate>(
     rt: &R,
     alloc: Global,
     fresh: Fresh,
@@ -124,7 +124,7 @@ fn played<N: BookNaming + Send + Sync, R: Threads + Wait + Sync, G: Gate>(
         Err(Memory) => return Err(Memory),
     };
     let totals = close(book.into_inner(), lanes);
-    let series = match told(alloc, plan, noted, matches, totals) {
+    let series = match series_from(alloc, plan, noted, matches, totals) {
         Ok(series) => series,
         Err(Memory) => return Err(Memory),
     };

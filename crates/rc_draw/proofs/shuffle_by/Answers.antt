@@ -19,7 +19,7 @@ loop-z-preserved c =
     let more = c.loop-z-test.true in
     let word : c.next_word.result ≡ words at = ap (λ x. x.0) c.next_word.ensures ∙ ap₂ (λ a b. word_at 4 a b at) inv.0 inv.1 in
     let next : c.next_word.new.self.word_pos ≡ at + 1 = ap (λ x. x.1.word_pos) c.next_word.ensures ∙ mod-eq_of_lt (omega (arith, sum, same, few)) in
-    let i = c.scaled-at.ensures.value ∙ ap (λ w. draws.scaled w z) word in
+    let i = c.scale_word-at.ensures.value ∙ ap (λ w. draws.scaled w z) word in
     let len = c.swap.ensures.len in (
       ap (λ x. x.1.key) c.next_word.ensures ∙ inv.0,
       ap (λ x. x.1.stream) c.next_word.ensures ∙ inv.1,

@@ -273,10 +273,10 @@ pub tests::over_built-returns-in-Coll : goal.tests::over_built-returns-in-Coll
 tests::over_built-returns-in-Coll t c =
     let e : test_seen c.args.expr.now ≡ all_of (each_card (coll_seen c.in-Coll.cards)) c.in-All.field-1 (test_seen c.in-All.inner.value) =
     ap test_seen c.in-All.is ∙ ap (λ d. all_of (domain_seen d) c.in-All.field-1 (test_seen c.in-All.inner.value)) c.in-Coll.is in
-    let b : c.built.result ≡ coll_value (scene_seen c.args.scene.now) c.args.scope.now (coll_seen c.in-Coll.cards) =
-    c.built.ensures ∙ ap values_seen c.as_slice.ensures.value ∙ c.coll_of.ensures in
+    let b : c.of_cards.result ≡ coll_value (scene_seen c.args.scene.now) c.args.scope.now (coll_seen c.in-Coll.cards) =
+    c.of_cards.ensures ∙ ap values_seen c.as_slice.ensures.value ∙ c.coll_of.ensures in
     c.all_cards.ensures
-    ∙ ap (λ x. list_all (λ m. test_value (scene_seen c.args.scene.now) (c.args.scope.now ++ m ∷ []) (test_seen x)) (map (λ k. card_bound k) c.built.result)) c.deref.ensures
+    ∙ ap (λ x. list_all (λ m. test_value (scene_seen c.args.scene.now) (c.args.scope.now ++ m ∷ []) (test_seen x)) (map (λ k. card_bound k) c.of_cards.result)) c.deref.ensures
     ∙ ap (λ xs. list_all (λ m. test_value (scene_seen c.args.scene.now) (c.args.scope.now ++ m ∷ []) (test_seen c.in-All.inner.value)) (map (λ k. card_bound k) xs)) b
     ∙ ap (test_value (scene_seen c.args.scene.now) c.args.scope.now) (sym e)
 
@@ -284,10 +284,10 @@ pub tests::over_built-returns-in-Coll-domain : goal.tests::over_built-returns-in
 tests::over_built-returns-in-Coll-domain t c =
     let e : test_seen c.args.expr.now ≡ any_of (each_card (coll_seen c.in-Coll-domain.cards)) c.in-Any.field-1 (test_seen c.in-Any.inner.value) =
     ap test_seen c.in-Any.is ∙ ap (λ d. any_of (domain_seen d) c.in-Any.field-1 (test_seen c.in-Any.inner.value)) c.in-Coll-domain.is in
-    let b : c.built-in-Coll-domain.result ≡ coll_value (scene_seen c.args.scene.now) c.args.scope.now (coll_seen c.in-Coll-domain.cards) =
-    c.built-in-Coll-domain.ensures ∙ ap values_seen c.as_slice-in-Coll-domain.ensures.value ∙ c.coll_of-in-Coll-domain.ensures in
+    let b : c.of_cards-in-Coll-domain.result ≡ coll_value (scene_seen c.args.scene.now) c.args.scope.now (coll_seen c.in-Coll-domain.cards) =
+    c.of_cards-in-Coll-domain.ensures ∙ ap values_seen c.as_slice-in-Coll-domain.ensures.value ∙ c.coll_of-in-Coll-domain.ensures in
     c.any_card.ensures
-    ∙ ap (λ x. list_any (λ m. test_value (scene_seen c.args.scene.now) (c.args.scope.now ++ m ∷ []) (test_seen x)) (map (λ k. card_bound k) c.built-in-Coll-domain.result)) c.deref-in-Coll-domain.ensures
+    ∙ ap (λ x. list_any (λ m. test_value (scene_seen c.args.scene.now) (c.args.scope.now ++ m ∷ []) (test_seen x)) (map (λ k. card_bound k) c.of_cards-in-Coll-domain.result)) c.deref-in-Coll-domain.ensures
     ∙ ap (λ xs. list_any (λ m. test_value (scene_seen c.args.scene.now) (c.args.scope.now ++ m ∷ []) (test_seen c.in-Any.inner.value)) (map (λ k. card_bound k) xs)) b
     ∙ ap (test_value (scene_seen c.args.scene.now) c.args.scope.now) (sym e)
 

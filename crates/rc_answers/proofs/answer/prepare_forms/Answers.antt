@@ -7,7 +7,7 @@ pub returns-in_default : goal.returns-in_default
 returns-in_default c =
     let forms = c.args.forms.now in
     let none : None ≡ slice_get forms.list.items 0 = search rules in
-    refusal_is c.args.task c.args.source.now _ c.missing.result c.missing.ensures
+    refusal_is c.args.task c.args.source.now _ c.answer_without_sheet.result c.answer_without_sheet.ensures
     (missing_answer c.args.task c.args.source.now (trees_of forms.list.items) forms.rest (no_tree forms.list.items none)
     c.requires.read)
 

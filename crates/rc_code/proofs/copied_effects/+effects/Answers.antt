@@ -12,7 +12,7 @@ copy_effect-returns-in_ok-copy_test-in-If t c =
 
 pub copy_effect-returns-in_ok-copy_int-in-Repeat : goal.copy_effect-returns-in_ok-copy_int-in-Repeat
 copy_effect-returns-in_ok-copy_int-in-Repeat t c =
-    c.repeated.ensures ∙ ap₂ (λ count es. repeat count (effects_from es)) c.in_ok-copy_int-in-Repeat.ensures c.in_ok-effects-in-Repeat.ensures
+    c.repeat.ensures ∙ ap₂ (λ count es. repeat count (effects_from es)) c.in_ok-copy_int-in-Repeat.ensures c.in_ok-effects-in-Repeat.ensures
     ∙ sym (ap effect_seen c.in-Repeat.is ∙ repeat_seen c.in-Repeat.count c.in-Repeat.effects)
 
 pub copy_effect-returns-in_ok-copy_domain-in-Each : goal.copy_effect-returns-in_ok-copy_domain-in-Each

@@ -21,9 +21,9 @@ returns-in-Some c need capacity asking =
     let same = same_equal key c.in-Some.entry (sym own) c.in-Some.ensures.same in
     found_is capacity c.args.entries.now.items c.put_in_front.new.entries.items (phase_seen c.make_ready.new.phase) need key c.in-Some.ensures.found
     (c.make_ready.ensures ∙ ap (λ n. ready (Some n)) (c.best_of-item.ensures ∙ ap best_of (sym same)))
-    (c.put_in_front.ensures ∙ ap (λ (k : Key). k ∷ c.taken.new.entries.items) (sym same) ∙ ap (λ es. key ∷ es) c.in-Some.ensures.rest)
+    (c.put_in_front.ensures ∙ ap (λ (k : Key). k ∷ c.take_entry.new.entries.items) (sym same) ∙ ap (λ es. key ∷ es) c.in-Some.ensures.rest)
 
 pub returns-in-None : goal.returns-in-None
 returns-in-None c need capacity asking =
-    missed_is capacity c.args.entries.now.items c.taken.new.entries.items (phase_seen c.miss.new.phase) need (key_seen c.args.key.now)
+    missed_is capacity c.args.entries.now.items c.take_entry.new.entries.items (phase_seen c.miss.new.phase) need (key_seen c.args.key.now)
     c.in-None.ensures.found (c.miss.ensures need asking) c.in-None.ensures.kept

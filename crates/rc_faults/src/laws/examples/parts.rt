@@ -210,7 +210,7 @@ pub fn locations_for_cards()
 {}
 
 /// At most two repeats and four binders are around a place. Who is scored isn't counted.
-pub fn nested()
+pub fn nested_parts()
     ensures two_repeats { Accepted (effect "(repeat 1 (repeat 1 (cycle reverse)) (repeat 1 (cycle reverse)))") }
     ensures three_repeats { Refused TooMany (effect "(repeat 1 (repeat 1 ^(repeat 1 (cycle reverse))))") }
     ensures repeats_far_inside { Refused TooMany

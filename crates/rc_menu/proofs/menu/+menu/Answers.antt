@@ -103,9 +103,9 @@ offer-returns-in-Parts t c =
 
 pub offer_each_group-loop-place-preserved : goal.offer_each_group-loop-place-preserved
 offer_each_group-loop-place-preserved t c =
-    let k = length-map c.note_values.new.values.items (with_value (scene_seen c.args.scene.now) c.args.name c.built-all.result) in
-    let n = length-map (map (with_value (scene_seen c.args.scene.now) c.args.name c.built-all.result) c.note_values.new.values.items) (λ x. group_bound x) in
-    let grown : menu_seen c.offer_group.new.menu.items ≡ take 256 (menu_seen c.loop-place.menu.items ++ map (extended (item_seen c.with_spot.result)) (spots_of (scene_seen c.args.scene.now) (c.args.scope.now ++ group_bound ((with_value (scene_seen c.args.scene.now) c.args.name c.built-all.result) c.value_at.result) ∷ []) (alt_seen c.args.inner.now))) =
+    let k = length-map c.note_values.new.values.items (with_value (scene_seen c.args.scene.now) c.args.name c.of_cards-all.result) in
+    let n = length-map (map (with_value (scene_seen c.args.scene.now) c.args.name c.of_cards-all.result) c.note_values.new.values.items) (λ x. group_bound x) in
+    let grown : menu_seen c.offer_group.new.menu.items ≡ take 256 (menu_seen c.loop-place.menu.items ++ map (extended (item_seen c.with_spot.result)) (spots_of (scene_seen c.args.scene.now) (c.args.scope.now ++ group_bound ((with_value (scene_seen c.args.scene.now) c.args.name c.of_cards-all.result) c.value_at.result) ∷ []) (alt_seen c.args.inner.now))) =
     c.offer_group.ensures
     ∙ ap (λ xs. take 256 (menu_seen c.loop-place.menu.items ++ map (extended (item_seen c.with_spot.result)) (spots_of (scene_seen c.args.scene.now) (c.args.scope.now ++ group_bound xs ∷ []) (alt_seen c.args.inner.now)))) c.regroup.ensures in
     let few = cut_few (menu_seen c.offer_group.new.menu.items) _ grown in
@@ -115,31 +115,31 @@ offer_each_group-loop-place-preserved t c =
       few = omega arith;
       told =
           offered (λ m. spots_of (scene_seen c.args.scene.now) (c.args.scope.now ++ m ∷ []) (alt_seen c.args.inner.now)) (item_seen c.args.item.now) (item_seen c.with_spot.result) (menu_seen c.loop-place.menu.items) (menu_seen c.offer_group.new.menu.items)
-          (take 256 (menu_seen c.args.menu.now.items ++ map (extended (item_seen c.args.item.now)) (from_each (λ m. spots_of (scene_seen c.args.scene.now) (c.args.scope.now ++ m ∷ []) (alt_seen c.args.inner.now)) 0 (map (λ x. group_bound x) (map (with_value (scene_seen c.args.scene.now) c.args.name c.built-all.result) c.note_values.new.values.items)))))
-          (map (λ x. group_bound x) (map (with_value (scene_seen c.args.scene.now) c.args.name c.built-all.result) c.note_values.new.values.items)) c.loop-place.place (group_bound ((with_value (scene_seen c.args.scene.now) c.args.name c.built-all.result) c.value_at.result)) (omega arith)
-          (map_here (λ x. group_bound x) (map (with_value (scene_seen c.args.scene.now) c.args.name c.built-all.result) c.note_values.new.values.items) c.loop-place.place ((with_value (scene_seen c.args.scene.now) c.args.name c.built-all.result) c.value_at.result) (omega arith)
-          (map_here (with_value (scene_seen c.args.scene.now) c.args.name c.built-all.result) c.note_values.new.values.items c.loop-place.place c.value_at.result lt c.value_at.ensures)) c.with_spot.ensures grown c.loop-place.invariant.told;
+          (take 256 (menu_seen c.args.menu.now.items ++ map (extended (item_seen c.args.item.now)) (from_each (λ m. spots_of (scene_seen c.args.scene.now) (c.args.scope.now ++ m ∷ []) (alt_seen c.args.inner.now)) 0 (map (λ x. group_bound x) (map (with_value (scene_seen c.args.scene.now) c.args.name c.of_cards-all.result) c.note_values.new.values.items)))))
+          (map (λ x. group_bound x) (map (with_value (scene_seen c.args.scene.now) c.args.name c.of_cards-all.result) c.note_values.new.values.items)) c.loop-place.place (group_bound ((with_value (scene_seen c.args.scene.now) c.args.name c.of_cards-all.result) c.value_at.result)) (omega arith)
+          (map_here (λ x. group_bound x) (map (with_value (scene_seen c.args.scene.now) c.args.name c.of_cards-all.result) c.note_values.new.values.items) c.loop-place.place ((with_value (scene_seen c.args.scene.now) c.args.name c.of_cards-all.result) c.value_at.result) (omega arith)
+          (map_here (with_value (scene_seen c.args.scene.now) c.args.name c.of_cards-all.result) c.note_values.new.values.items c.loop-place.place c.value_at.result lt c.value_at.ensures)) c.with_spot.ensures grown c.loop-place.invariant.told;
     }
 
 pub offer_each_group-returns-then-is_filled : goal.offer_each_group-returns-then-is_filled
 offer_each_group-returns-then-is_filled t c =
     let n = length-map c.loop-place.menu.items item_seen in
-    let b : c.built-all.result ≡ coll_value (scene_seen c.args.scene.now) c.args.scope.now (coll_seen c.args.cards.now) =
-    c.built-all.ensures ∙ ap values_seen c.as_slice.ensures.value ∙ c.coll_of.ensures in
+    let b : c.of_cards-all.result ≡ coll_value (scene_seen c.args.scene.now) c.args.scope.now (coll_seen c.args.cards.now) =
+    c.of_cards-all.ensures ∙ ap values_seen c.as_slice.ensures.value ∙ c.coll_of.ensures in
     offered_full (menu_seen c.loop-place.menu.items) _ _ (n ∙ c.is_filled.ensures.full c.if-is_filled.true) c.loop-place.invariant.told
-    ∙ ap (λ xs. take 256 (menu_seen c.args.menu.now.items ++ map (extended (item_seen c.args.item.now)) (from_each (λ m. spots_of (scene_seen c.args.scene.now) (c.args.scope.now ++ m ∷ []) (alt_seen c.args.inner.now)) 0 (map (λ x. group_bound x) (map (with_value (scene_seen c.args.scene.now) c.args.name c.built-all.result) xs))))) c.note_values.ensures
+    ∙ ap (λ xs. take 256 (menu_seen c.args.menu.now.items ++ map (extended (item_seen c.args.item.now)) (from_each (λ m. spots_of (scene_seen c.args.scene.now) (c.args.scope.now ++ m ∷ []) (alt_seen c.args.inner.now)) 0 (map (λ x. group_bound x) (map (with_value (scene_seen c.args.scene.now) c.args.name c.of_cards-all.result) xs))))) c.note_values.ensures
     ∙ ap (λ xs. take 256 (menu_seen c.args.menu.now.items ++ map (extended (item_seen c.args.item.now)) (from_each (λ m. spots_of (scene_seen c.args.scene.now) (c.args.scope.now ++ m ∷ []) (alt_seen c.args.inner.now)) 0 (map (λ x. group_bound x) (groups_by (scene_seen c.args.scene.now) c.args.name xs))))) b
 
 pub offer_each_group-returns : goal.offer_each_group-returns
 offer_each_group-returns t c =
-    let k = length-map c.note_values.new.values.items (with_value (scene_seen c.args.scene.now) c.args.name c.built-all.result) in
-    let n = length-map (map (with_value (scene_seen c.args.scene.now) c.args.name c.built-all.result) c.note_values.new.values.items) (λ x. group_bound x) in
+    let k = length-map c.note_values.new.values.items (with_value (scene_seen c.args.scene.now) c.args.name c.of_cards-all.result) in
+    let n = length-map (map (with_value (scene_seen c.args.scene.now) c.args.name c.of_cards-all.result) c.note_values.new.values.items) (λ x. group_bound x) in
     let count = length-map c.loop-place.menu.items item_seen in
-    let b : c.built-all.result ≡ coll_value (scene_seen c.args.scene.now) c.args.scope.now (coll_seen c.args.cards.now) =
-    c.built-all.ensures ∙ ap values_seen c.as_slice.ensures.value ∙ c.coll_of.ensures in
+    let b : c.of_cards-all.result ≡ coll_value (scene_seen c.args.scene.now) c.args.scope.now (coll_seen c.args.cards.now) =
+    c.of_cards-all.ensures ∙ ap values_seen c.as_slice.ensures.value ∙ c.coll_of.ensures in
     offered_all (λ m. spots_of (scene_seen c.args.scene.now) (c.args.scope.now ++ m ∷ []) (alt_seen c.args.inner.now)) (item_seen c.args.item.now) (menu_seen c.loop-place.menu.items) _
-    (map (λ x. group_bound x) (map (with_value (scene_seen c.args.scene.now) c.args.name c.built-all.result) c.note_values.new.values.items)) c.loop-place.place (omega (arith, c.len-place-end.ensures.value)) (omega arith) c.loop-place.invariant.told
-    ∙ ap (λ xs. take 256 (menu_seen c.args.menu.now.items ++ map (extended (item_seen c.args.item.now)) (from_each (λ m. spots_of (scene_seen c.args.scene.now) (c.args.scope.now ++ m ∷ []) (alt_seen c.args.inner.now)) 0 (map (λ x. group_bound x) (map (with_value (scene_seen c.args.scene.now) c.args.name c.built-all.result) xs))))) c.note_values.ensures
+    (map (λ x. group_bound x) (map (with_value (scene_seen c.args.scene.now) c.args.name c.of_cards-all.result) c.note_values.new.values.items)) c.loop-place.place (omega (arith, c.len-place-end.ensures.value)) (omega arith) c.loop-place.invariant.told
+    ∙ ap (λ xs. take 256 (menu_seen c.args.menu.now.items ++ map (extended (item_seen c.args.item.now)) (from_each (λ m. spots_of (scene_seen c.args.scene.now) (c.args.scope.now ++ m ∷ []) (alt_seen c.args.inner.now)) 0 (map (λ x. group_bound x) (map (with_value (scene_seen c.args.scene.now) c.args.name c.of_cards-all.result) xs))))) c.note_values.ensures
     ∙ ap (λ xs. take 256 (menu_seen c.args.menu.now.items ++ map (extended (item_seen c.args.item.now)) (from_each (λ m. spots_of (scene_seen c.args.scene.now) (c.args.scope.now ++ m ∷ []) (alt_seen c.args.inner.now)) 0 (map (λ x. group_bound x) (groups_by (scene_seen c.args.scene.now) c.args.name xs))))) b
 
 pub offer_cards-returns-in-Do : goal.offer_cards-returns-in-Do

@@ -8,11 +8,11 @@ use Rattle.rc_value.proofs.sought.count_one_by_one.Goals as goal
 pub loop-place-preserved : goal.loop-place-preserved
 loop-place-preserved c =
     record {
-      few = passed_few c.loop-place.count c.counted-count.result c.loop-place.place c.is_as_sought.result c.counted-count.ensures c.loop-place.invariant.few;
+      few = passed_few c.loop-place.count c.count_if-count.result c.loop-place.place c.is_as_sought.result c.count_if-count.ensures c.loop-place.invariant.few;
       told =
           passed_on (sought_value (scene_seen c.args.scene.now) c.args.sought) c.args.cards.now c.loop-place.place (value_seen c.at.result)
-          c.loop-place.count c.counted-count.result _ c.is_as_sought.result (omega (arith, c.len-place-end.ensures.is)) c.at.ensures
-          c.is_as_sought.ensures c.counted-count.ensures c.loop-place.invariant.told;
+          c.loop-place.count c.count_if-count.result _ c.is_as_sought.result (omega (arith, c.len-place-end.ensures.is)) c.at.ensures
+          c.is_as_sought.ensures c.count_if-count.ensures c.loop-place.invariant.told;
     }
 
 pub returns-clause-is : goal.returns-clause-is

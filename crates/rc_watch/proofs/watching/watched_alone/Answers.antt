@@ -8,8 +8,8 @@ use Rattle.rc_log_model.specs.Views.{views_in}
 use Rattle.rc_watch.proofs.RecordLemmas.{watchable, views_count, each_viewed}
 use Rattle.rc_watch.proofs.watching.watched_alone.Goals as goal
 
-pub told-requires-clause-play : goal.told-requires-clause-play
-told-requires-clause-play g c =
+pub log_of_record-requires-clause-play : goal.log_of_record-requires-clause-play
+log_of_record-requires-clause-play g c =
     let about = c.args.about.now.value in
     let r = record_seen c.in_ok-played.played in
     let keeps = watchable about c.deref.result.now c.deref-2.result.now c.turns-turns.result c.deref.ensures c.deref-2.ensures c.sheet-sheet.ensures.shape
@@ -17,8 +17,8 @@ told-requires-clause-play g c =
     subst (λ about. IsPlayOf about (dealing_of r.deal) r.picks) (sym c.deref-3.ensures)
     (c.records_tell_views.ensures.plays about (plan_seen c.args.plan.now.value) c.args.number r keeps c.in_ok-played.ensures)
 
-pub told-requires-clause-counts : goal.told-requires-clause-counts
-told-requires-clause-counts g c =
+pub log_of_record-requires-clause-counts : goal.log_of_record-requires-clause-counts
+log_of_record-requires-clause-counts g c =
     let about = c.args.about.now.value in
     let r = record_seen c.in_ok-played.played in
     let keeps = watchable about c.deref.result.now c.deref-2.result.now c.turns-turns.result c.deref.ensures c.deref-2.ensures c.sheet-sheet.ensures.shape
@@ -26,8 +26,8 @@ told-requires-clause-counts g c =
     subst (λ about. AllCount about.shape c.args.seat (views_in about (dealing_of r.deal) c.args.seat r.picks)) (sym c.deref-3.ensures)
     (views_count about (plan_seen c.args.plan.now.value) c.args.number c.args.seat r keeps c.records_tell_views.ensures.views c.views_of_matches_count.ensures.all c.in_ok-played.ensures)
 
-pub told-requires-clause-each : goal.told-requires-clause-each
-told-requires-clause-each g c =
+pub log_of_record-requires-clause-each : goal.log_of_record-requires-clause-each
+log_of_record-requires-clause-each g c =
     let about = c.args.about.now.value in
     let r = record_seen c.in_ok-played.played in
     let keeps = watchable about c.deref.result.now c.deref-2.result.now c.turns-turns.result c.deref.ensures c.deref-2.ensures c.sheet-sheet.ensures.shape

@@ -32,7 +32,7 @@ effect_list-returns-in-Repeat t c =
     let at = c.index-parts-1-in-Repeat in
     let read = repeat_read c.args.self.now c.args.scope.now c.args.parts.now _ at.result given.given given.sized
     c.in-Repeat.is at.is in
-    subst (Gives effect_seen c.repeated.result) read (c.repeated.ensures _ c.effects-effects-in-Repeat.ensures)
+    subst (Gives effect_seen c.repeat_of.result) read (c.repeat_of.ensures _ c.effects-effects-in-Repeat.ensures)
 
 pub effect_list-returns-in_ok-domain-in-Each : goal.effect_list-returns-in_ok-domain-in-Each
 effect_list-returns-in_ok-domain-in-Each t c =

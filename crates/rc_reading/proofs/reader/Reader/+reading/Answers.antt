@@ -202,8 +202,8 @@ filter-returns t c =
     (λ (two : ℕ × Box Test Global). (two.0, test_seen two.1.value)) c.boxed_collection-cards.result c.bound_test-passes.result
     c.both_read.result _ _ c.both_read.ensures c.boxed_collection-cards.ensures c.bound_test-passes.ensures))
 
-pub quantified-returns : goal.quantified-returns
-quantified-returns t c =
+pub quantified_test-returns : goal.quantified_test-returns
+quantified_test-returns t c =
     let naming = c.args.self.now in
     let scope = c.args.scope.now in
     let range = c.range-item in

@@ -97,8 +97,8 @@ lay-requires c =
     (sym (ap (λ (laid : Laid). laid.shape) c.in_ok-table.ensures))
     (subst (IsSound shape) (sym table) (ascending_sound shape view c.requires))
 
-pub hiding-requires : goal.hiding-requires
-hiding-requires c =
+pub hiding_locations-requires : goal.hiding_locations-requires
+hiding_locations-requires c =
     ap length c.deref-11.ensures.value ∙ sym (length-map c.args.view.now.sights.items sight_seen)
     ∙ each_seen c.args.shape.now.value (view_seen c.args.view.now) c.requires ∙ ap (λ (s : Shape). length s.places) (sym c.deref-10.ensures)
 
