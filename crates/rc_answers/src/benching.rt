@@ -23,7 +23,7 @@ use std::alloc::Global;
 pub fn bench_game(alloc: Global, number: u16) -> Result<Game, Memory>
     requires some { 1 ≤ number }
     requires few { number ≤ most_in_bench }
-    ensures is { IfOk result (λ game. IsTrickGame game.checked) }
+    ensures trick { IfOk result (λ game. IsTrickGame game.checked) }
 
     // The bench's game has no other sheet.
     ensures one { IfOk result (λ game. (other : Sheet) → IsTrickGame other → other ≡ game.checked) }
@@ -37,7 +37,7 @@ pub fn bench_game(alloc: Global, number: u16) -> Result<Game, Memory>
 
 /// The trick game, which its text stands for. Memory may run out.
 fn trick_game(alloc: Global) -> Result<Checked, Memory>
-    ensures is { IfOk result (λ checked. IsTrickGame checked) }
+    ensures trick { IfOk result (λ checked. IsTrickGame checked) }
     ensures one { IfOk result (λ checked. (other : Sheet) → IsTrickGame other → other ≡ checked) }
     ensures players { IfOk result (λ checked. checked.players ≡ 4) }
 {
@@ -55,7 +55,7 @@ fn game_of(alloc: Global, forms: &Forms) -> Result<Checked, Memory>
     requires printable { All (λ form. IsPrintable (tree_of form)) forms.now.list.items }
     requires of_atoms { All (λ form. IsOfAtoms (tree_of form)) forms.now.list.items }
     requires placed { All (λ form. IsPlaced (length trick_text) (tree_of form)) forms.now.list.items }
-    ensures is { IfOk result (λ checked. IsTrickGame checked) }
+    ensures trick { IfOk result (λ checked. IsTrickGame checked) }
     ensures one { IfOk result (λ checked. (other : Sheet) → IsTrickGame other → other ≡ checked) }
     ensures players { IfOk result (λ checked. checked.players ≡ 4) }
 {

@@ -23,7 +23,7 @@ pub(crate) fn legend_of(alloc: Global, checked: &Checked) -> Result<Vec<u8>, Mem
 
 /// The legend that a transcript of this format has: that of the sheet, or none. Memory may run out.
 pub fn legend_for(alloc: Global, format: Format, checked: &Checked) -> Result<Vec<u8>, Memory>
-    ensures is { IfOk result (λ bytes. HasLegend format checked.now bytes.items) }
+    ensures legend { IfOk result (λ bytes. HasLegend format checked.now bytes.items) }
 
     // It has whole lines alone.
     ensures cut { IfOk result (λ bytes. (lines_in bytes.items).1 ≡ []) }

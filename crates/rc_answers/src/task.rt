@@ -44,7 +44,7 @@ impl Task {
 
     /// The most bytes that it takes from its source.
     pub fn limit(self) -> usize
-        ensures is { result ≡ limit_of self }
+        ensures limit { result ≡ limit_of self }
         ensures few { result ≤ longest_text }
     {
         match self {

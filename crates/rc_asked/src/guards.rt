@@ -158,7 +158,7 @@ fn is_variable(card: &CardExpr, place: u8) -> bool
 
 // The test of the card of the variable at this place, where that is what two cards' values are compared for.
 fn card_test_between(a: &CardExpr, name: u16, b: &CardExpr, other: u16, place: u8) -> Option<CardTest>
-    ensures is { IfSome result (IsCardTestOf place (eq_attr (card_seen a.now) name (card_seen b.now) other)) }
+    ensures meaning { IfSome result (IsCardTestOf place (eq_attr (card_seen a.now) name (card_seen b.now) other)) }
     ensures found { is_some result ≡ is_the_variable place (card_seen a.now) && is_fixed_top (card_seen b.now) }
 {
     if !is_variable(a, place) {
@@ -176,7 +176,7 @@ fn card_test_between(a: &CardExpr, name: u16, b: &CardExpr, other: u16, place: u
 
 // The same where a card is asked for a value.
 fn card_test_named(card: &CardExpr, name: u16, value: u16, place: u8) -> Option<CardTest>
-    ensures is { IfSome result (IsCardTestOf place (has_value (card_seen card.now) name value)) }
+    ensures meaning { IfSome result (IsCardTestOf place (has_value (card_seen card.now) name value)) }
     ensures found { is_some result ≡ is_the_variable place (card_seen card.now) }
 {
     if is_variable(card, place) {
@@ -186,7 +186,7 @@ fn card_test_named(card: &CardExpr, name: u16, value: u16, place: u8) -> Option<
 }
 
 fn card_test_of(test: &Test, place: u8) -> Option<CardTest>
-    ensures is { IfSome result (IsCardTestOf place (test_seen test.now)) }
+    ensures meaning { IfSome result (IsCardTestOf place (test_seen test.now)) }
     ensures found { is_some result ≡ is_card_test place (test_seen test.now) }
 {
     match test {
@@ -197,7 +197,7 @@ fn card_test_of(test: &Test, place: u8) -> Option<CardTest>
 }
 
 fn known_of(test: &Test) -> Option<Condition>
-    ensures is { IfSome result (IsConditionOf (test_seen test.now)) }
+    ensures meaning { IfSome result (IsConditionOf (test_seen test.now)) }
     ensures found { is_some result ≡ is_fixed_comparison (test_seen test.now) }
 {
     match comparison_of(test) {
@@ -214,7 +214,7 @@ fn known_of(test: &Test) -> Option<Condition>
 
 // The condition that a test is which binds no variable.
 fn plain_condition(test: &Test) -> Option<Condition>
-    ensures is { IfSome result (IsConditionOf (test_seen test.now)) }
+    ensures meaning { IfSome result (IsConditionOf (test_seen test.now)) }
     ensures found { is_some result ≡ is_card_test 0 (test_seen test.now) || is_fixed_comparison (test_seen test.now) }
 {
     match card_test_of(test, 0) {
@@ -225,7 +225,7 @@ fn plain_condition(test: &Test) -> Option<Condition>
 
 // The condition that one of a domain passes a test.
 fn some_of(domain: &Domain, bound: u32, inner: &Test) -> Option<Condition>
-    ensures is { IfSome result (IsConditionOf (any_of (domain_seen domain.now) bound (test_seen inner.now))) }
+    ensures meaning { IfSome result (IsConditionOf (any_of (domain_seen domain.now) bound (test_seen inner.now))) }
     ensures found { is_some result ≡ is_fixed_domain (domain_seen domain.now) && is_card_test 1 (test_seen inner.now) }
 {
     match fixed_domain(domain) {
@@ -236,7 +236,7 @@ fn some_of(domain: &Domain, bound: u32, inner: &Test) -> Option<Condition>
 
 fn some_in(among: Loc, bound: u32, inner: &Test) -> Option<Condition>
     requires { IsFixedLoc (loc_seen among) }
-    ensures is { IfSome result (IsConditionOf
+    ensures meaning { IfSome result (IsConditionOf
         (any_of (each_card (cards_in (loc_seen among))) bound (test_seen inner.now))) }
     ensures found { is_some result ≡ is_card_test 1 (test_seen inner.now) }
 {
@@ -247,7 +247,7 @@ fn some_in(among: Loc, bound: u32, inner: &Test) -> Option<Condition>
 }
 
 fn condition_of(test: &Test) -> Option<Condition>
-    ensures is { IfSome result (IsConditionOf (test_seen test.now)) }
+    ensures meaning { IfSome result (IsConditionOf (test_seen test.now)) }
     ensures found { is_some result ≡ is_condition (test_seen test.now) }
 {
     match test {
@@ -257,7 +257,7 @@ fn condition_of(test: &Test) -> Option<Condition>
 }
 
 fn part_in_sense(sense: Sense, test: &Test) -> Option<GuardPart>
-    ensures is { IfSome result (IsPartOf (in_sense sense (test_seen test.now))) }
+    ensures meaning { IfSome result (IsPartOf (in_sense sense (test_seen test.now))) }
     ensures found { is_some result ≡ is_condition (test_seen test.now) }
 {
     match condition_of(test) {
@@ -267,7 +267,7 @@ fn part_in_sense(sense: Sense, test: &Test) -> Option<GuardPart>
 }
 
 fn part_of(test: &Test) -> Option<GuardPart>
-    ensures is { IfSome result (IsPartOf (test_seen test.now)) }
+    ensures meaning { IfSome result (IsPartOf (test_seen test.now)) }
     ensures found { is_some result ≡ is_part (test_seen test.now) }
 {
     match test {
@@ -327,7 +327,7 @@ fn guard_by(loc: Loc, test: &Test) -> Option<Guard>
 
 fn guard_in(loc: Loc, alt: &Alt) -> Option<Guard>
     requires { IsFixedLoc (loc_seen loc) }
-    ensures is { IfSome result (λ guard. (bound : ℕ)
+    ensures meaning { IfSome result (λ guard. (bound : ℕ)
         → IsGuardOf (any_alt (each_card (cards_in (loc_seen loc))) bound (alt_seen alt.now)) guard) }
     ensures found { is_some result ≡ is_guarded (alt_seen alt.now) }
 {
@@ -338,7 +338,7 @@ fn guard_in(loc: Loc, alt: &Alt) -> Option<Guard>
 }
 
 fn guard_among(domain: &Domain, alt: &Alt) -> Option<Guard>
-    ensures is { IfSome result (λ guard. (bound : ℕ)
+    ensures meaning { IfSome result (λ guard. (bound : ℕ)
         → IsGuardOf (any_alt (domain_seen domain.now) bound (alt_seen alt.now)) guard) }
     ensures found { is_some result ≡ is_fixed_domain (domain_seen domain.now) && is_guarded (alt_seen alt.now) }
 {
@@ -350,7 +350,7 @@ fn guard_among(domain: &Domain, alt: &Alt) -> Option<Guard>
 
 /// The guard of an alternative outside all binders that offers the cards of a location, if it is one in such parts.
 pub(crate) fn guard_of(alt: &Alt) -> Option<Guard>
-    ensures is { IfSome result (IsGuardOf (alt_seen alt.now)) }
+    ensures meaning { IfSome result (IsGuardOf (alt_seen alt.now)) }
     ensures found { is_some result ≡ has_guard (alt_seen alt.now) }
 {
     match alt {

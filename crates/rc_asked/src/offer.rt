@@ -63,7 +63,7 @@ impl Offer {
     /// Its guard in parts, if it has such a one.
     #[inline(always)]
     pub fn guard(&self) -> Option<&Guard>
-        ensures is { IfSome result (λ guard. IsGuardOf self.now guard.now) }
+        ensures meaning { IfSome result (λ guard. IsGuardOf self.now guard.now) }
         ensures found { is_some result ≡ has_guard self.now }
     {
         match &self.guard {

@@ -150,7 +150,7 @@ impl<N: BookNaming> Book<N> {
 
     /// The calls so far. Each look says what is so, and each key is of the about that the book serves.
     pub fn journal(&self) -> &[Call]
-        ensures is { map lane_call_seen result.now ≡ self.now }
+        ensures calls { map lane_call_seen result.now ≡ self.now }
 
         // Each look hit exactly where its key was in the book then.
         ensures legal { is_legal N.capacity (calls_of self.now) ≡ true }

@@ -72,7 +72,7 @@ impl House {
         requires seats { IsPlanFor about.value plan.value }
         requires matches { length plan.value.matches.items < 2 ^ 32 }
         requires capacity { 1 ≤ capacity }
-        ensures is { IfOk result (λ house. house ≡ opened about.value (plan_seen plan.value) capacity) }
+        ensures opened { IfOk result (λ house. house ≡ opened about.value (plan_seen plan.value) capacity) }
         ensures sound { IfOk result (λ house. IsSound house) }
     {
         let code = shared_code(alloc, &about)?;
@@ -99,7 +99,7 @@ impl House {
     /// it is spent, and where it is over, its record is that match's.
     pub fn notes_of(&self, m: u32) -> &MatchRecord
         requires { m < length self.now.matches }
-        ensures is { IfSome (slice_get self.now.matches m) (λ lane. record_seen result.now ≡ lane.notes) }
+        ensures notes { IfSome (slice_get self.now.matches m) (λ lane. record_seen result.now ≡ lane.notes) }
         ensures of_plan { IfSome (slice_get self.now.matches m) (λ lane. IsOf self.now.about self.now.plan m lane) }
     {
         &self.matches[m as usize].notes
@@ -115,7 +115,7 @@ impl House {
 
     // What follows from an event.
     fn change(&mut self, alloc: Global, event: &Event) -> Result<(), Memory>
-        ensures is { OnOk result (self.new ≡ after_event self.old (event_seen event.now)) }
+        ensures after { OnOk result (self.new ≡ after_event self.old (event_seen event.now)) }
         ensures open { OnOk result (FindsSpent self.old (event_seen event.now) → ⊥) }
         ensures spent { KeepsSpent self.old self.new }
         ensures lacking { OnErr result (FailsAt self.old (event_seen event.now) self.new) }
@@ -133,7 +133,7 @@ impl House {
 
     // A match works alone.
     fn work(&mut self, alloc: Global, m: u32) -> Result<(), Memory>
-        ensures is { OnOk result (self.new ≡ after_event self.old (works m)) }
+        ensures after { OnOk result (self.new ≡ after_event self.old (works m)) }
         ensures open { OnOk result (FindsSpent self.old (works m) → ⊥) }
         ensures spent { KeepsSpent self.old self.new }
         ensures lacking { OnErr result (FailsAt self.old (works m) self.new) }
@@ -149,7 +149,7 @@ impl House {
 
     // A match looks up what it asks.
     fn look(&mut self, alloc: Global, m: u32) -> Result<(), Memory>
-        ensures is { OnOk result (self.new ≡ after_event self.old (looks m)) }
+        ensures after { OnOk result (self.new ≡ after_event self.old (looks m)) }
         ensures open { OnOk result (FindsSpent self.old (looks m) → ⊥) }
         ensures spent { KeepsSpent self.old self.new }
         ensures lacking { OnErr result (self.new ≡ self.old) }
@@ -168,7 +168,7 @@ impl House {
 
     // A match keeps the entry that it holds.
     fn keep(&mut self, m: u32) -> Result<(), Memory>
-        ensures is { OnOk result (self.new ≡ after_event self.old (keeps m)) }
+        ensures after { OnOk result (self.new ≡ after_event self.old (keeps m)) }
         ensures open { OnOk result (FindsSpent self.old (keeps m) → ⊥) }
         ensures spent { KeepsSpent self.old self.new }
         ensures lacking { OnErr result (self.new ≡ self.old) }
@@ -187,7 +187,7 @@ impl House {
 
     // The entry of a key is lost.
     fn lose(&mut self, key: &Key)
-        ensures is { self.new ≡ after_event self.old (loses (key_seen key.now)) }
+        ensures after { self.new ≡ after_event self.old (loses (key_seen key.now)) }
         ensures spent { KeepsSpent self.old self.new }
     {
         // the sheet is well formed and in sight
@@ -254,7 +254,7 @@ fn start_lane(
 ) -> Result<LaneState<FlatMachine>, Memory>
     requires number { number < length plan.now.value.matches.items }
     requires code { StandsFor about.now.value.sheet (code_seen code.now.value) }
-    ensures is { IfOk result (λ state. lane_in state ≡ begun about.now.value (plan_seen plan.now.value) number) }
+    ensures begun { IfOk result (λ state. lane_in state ≡ begun about.now.value (plan_seen plan.now.value) number) }
     ensures own { IfOk result (λ state. IsOwn about.now.value (plan_seen plan.now.value) number state) }
 {
     let machine = FlatMachine::start_of(alloc, code, about)?;

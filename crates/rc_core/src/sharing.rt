@@ -29,7 +29,7 @@ pub(crate) fn look_up(
 ) -> Result<(), Memory>
     requires wants { (about : About) × Wants about (phase_seen phase.old)
         × AllByRecursion (λ key. key.about ≡ about) entries.old.items }
-    ensures is { OnOk result ((capacity : ℕ)
+    ensures after { OnOk result ((capacity : ℕ)
         → (phase_seen phase.new, entries.new.items) ≡ looked_up capacity entries.old.items (phase_seen phase.old)) }
     ensures open { OnOk result (phase_seen phase.old ≢ spent) }
     ensures lacking { OnErr result ((phase_seen phase.new ≡ phase_seen phase.old)
@@ -75,7 +75,7 @@ pub(crate) fn hand_over(
     capacity: usize,
 ) -> Result<(), Memory>
     requires wants { (about : About) × Wants about (phase_seen phase.old) }
-    ensures is { OnOk result ((phase_seen phase.new, entries.new.items)
+    ensures after { OnOk result ((phase_seen phase.new, entries.new.items)
         ≡ handed_over capacity entries.old.items (phase_seen phase.old)) }
     ensures open { OnOk result (phase_seen phase.old ≢ spent) }
     ensures lacking { OnErr result ((phase_seen phase.new ≡ phase_seen phase.old)

@@ -35,7 +35,7 @@ use rc_value::{Bind, Bindings, Card, Cards};
 #[tactic(auto, using(crate::proofs::ListLemmas::front_seen, crate::proofs::ListLemmas::all_seen, crate::proofs::ListLemmas::front_simple))]
 #[inline(always)]
 pub fn front(code: &[Instruction], count: usize) -> &[Instruction]
-    ensures is { list_seen result.now ≡ take count (list_seen code.now) }
+    ensures code { list_seen result.now ≡ take count (list_seen code.now) }
     ensures simple { AreSimple (list_seen code.now) → AreSimple (list_seen result.now) }
     ensures shorter { length result.now ≤ length code.now }
 {
@@ -49,7 +49,7 @@ pub fn front(code: &[Instruction], count: usize) -> &[Instruction]
 #[tactic(auto, using(crate::proofs::ListLemmas::past_rest, crate::proofs::ListLemmas::none_seen, crate::proofs::ListLemmas::past_simple))]
 #[inline(always)]
 pub fn past(code: &[Instruction], count: usize) -> &[Instruction]
-    ensures is { list_seen result.now ≡ drop count (list_seen code.now) }
+    ensures code { list_seen result.now ≡ drop count (list_seen code.now) }
     ensures simple { AreSimple (list_seen code.now) → AreSimple (list_seen result.now) }
     ensures shorter { length result.now ≤ length code.now }
 {
@@ -62,7 +62,7 @@ pub fn past(code: &[Instruction], count: usize) -> &[Instruction]
 // The test and what is inside, where a block is one `if`.
 #[inline(always)]
 fn sole_if(code: &[Instruction]) -> Option<(&CompiledTest, &[Instruction])>
-    ensures is { IfSome result (λ sole. effects_in (list_seen code.now)
+    ensures effect { IfSome result (λ sole. effects_in (list_seen code.now)
         ≡ effect (when sole.0.now (effects_in (list_seen sole.1.now))) no_effect) }
     ensures simple { IfSome result (λ sole. AreSimple (list_seen code.now) → AreSimple (list_seen sole.1.now)) }
     ensures shorter { IfSome result (λ sole. length sole.1.now < length code.now) }

@@ -132,7 +132,7 @@ pub struct EachPile<'c> {
 /// location of that player to the top of another one, whose owner isn't found by the variable.
 #[inline(always)]
 pub fn gather_for_each<'c>(context: &Context, code: &'c [Instruction]) -> Option<EachPile<'c>>
-    ensures is { IfSome result (λ each. effects_in (list_seen code.now)
+    ensures effect { IfSome result (λ each. effects_in (list_seen code.now)
         ≡ effect (gathering (loc_seen each.from.now) (loc_seen each.to.now)) no_effect) }
     ensures member { IfSome result (λ each. who_seen each.from.now.who ≡ who_var (length context.now.scope.now)) }
     ensures apart { IfSome result (λ each. IsApart (length context.now.scope.now) (who_seen each.to.now.who)) }
@@ -149,7 +149,7 @@ pub fn gather_for_each<'c>(context: &Context, code: &'c [Instruction]) -> Option
 // The same of an effect. So many variables stand outside that one.
 #[inline(always)]
 fn gather_of_member(effect: &Effect, outside: usize) -> Option<EachPile<'_>>
-    ensures is { IfSome result (λ each. effect_seen effect.now
+    ensures effect { IfSome result (λ each. effect_seen effect.now
         ≡ gathering (loc_seen each.from.now) (loc_seen each.to.now)) }
     ensures member { IfSome result (λ each. who_seen each.from.now.who ≡ who_var outside) }
     ensures apart { IfSome result (λ each. IsApart outside (who_seen each.to.now.who)) }

@@ -67,7 +67,7 @@ impl KeySequence {
 
     // The first word of the key of this number.
     fn word(&mut self, number: u32) -> u32
-        ensures is { result ≡ draws.word_of (key_at self.old number) 0 }
+        ensures word { result ≡ draws.word_of (key_at self.old number) 0 }
         ensures same { self.new ≡ self.old }
     {
         let at = number.wrapping_sub(self.first);

@@ -155,7 +155,7 @@ impl Machine for FlatMachine {
     fn menu_size(&self) -> usize
         requires fresh { self.now.spent ≡ false }
         requires decision { StopsAtDecision self.now.about self.now.config }
-        ensures is { result ≡ length (menu_here self.now.about self.now.config) }
+        ensures count { result ≡ length (menu_here self.now.about self.now.config) }
         ensures few { result ≤ most_items }
     {
         self.state.menu.len()

@@ -116,7 +116,7 @@ pub(crate) fn item_at(menu: &Items, place: u16) -> &Item
 
 // The instructions of an alternative's effects, by its place.
 fn block_of<'c>(inside: &'c [Instruction], blocks: &[Block], alt: usize) -> &'c [Instruction]
-    ensures is { list_seen result.now ≡ block_in (slice_get (map block_seen blocks.now) alt) (list_seen inside.now) }
+    ensures code { list_seen result.now ≡ block_in (slice_get (map block_seen blocks.now) alt) (list_seen inside.now) }
     ensures simple { AreSimple (list_seen inside.now) → AreSimple (list_seen result.now) }
 {
     match blocks.get(alt) {

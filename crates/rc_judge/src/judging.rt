@@ -171,7 +171,7 @@ fn text_along<N: Margin>(
     requires seats { IsPlanFor about.now plan.now }
     requires text { IsHouseText (house_text_seen text.now) }
     requires few { head + length (lines_of (house_text_seen text.now)) ≤ 67108864 }
-    ensures is { Finds result (along.judged about.now dealing_of (plan_seen plan.now) head
+    ensures verdict { Finds result (along.judged about.now dealing_of (plan_seen plan.now) head
         (record { text = house_text_seen text.now; marks = N.told margin.old })) }
     ensures noted { N.notes ≡ true → N.here margin.old ≡ [] → OnOk result (N.before margin.new ≡ N.before margin.old
         ++ lists_over about.now dealing_of (plan_seen plan.now) 0 (map record_seen text.now.matches.items)) }
@@ -193,7 +193,7 @@ fn matches_along<N: Margin>(
 ) -> Result<u32, Halt>
     requires within { length plan.now.matches.items ≤ most_matches }
     requires room { from + lines_in_all matches.now < 2 ^ 32 }
-    ensures is { Judges (λ n. n) result (along.matches_along about.now dealing_of (plan_seen plan.now) 0 from
+    ensures verdict { Judges (λ n. n) result (along.matches_along about.now dealing_of (plan_seen plan.now) 0 from
         (N.told margin.old) (map record_seen matches.now)) }
     ensures noted { N.notes ≡ true → N.here margin.old ≡ [] → OnOk result (N.before margin.new ≡ N.before margin.old
         ++ lists_over about.now dealing_of (plan_seen plan.now) 0 (map record_seen matches.now)) }
@@ -214,7 +214,7 @@ fn matches_along<N: Margin>(
 
 // The row that applies behind a match that lacks score lines.
 fn lacking_row(about: &About, played: &MatchRecord) -> Option<Why>
-    ensures is { row_seen result ≡ rows.lacking_row about.now (record_seen played.now) }
+    ensures row { row_seen result ≡ rows.lacking_row about.now (record_seen played.now) }
     ensures each { result ≡ None → about.now.sheet.players ≤ length played.now.scores.items }
 {
     if played.scores.len() < usize::from(about.sheet().players) {

@@ -6,7 +6,7 @@ use rc_table::{Shape, face_number};
 
 /// How many faces a shape has, and so lines a legend.
 pub(crate) fn face_count(shape: &Shape) -> u32
-    ensures is { result ≡ length (face_numbers shape.now) }
+    ensures count { result ≡ length (face_numbers shape.now) }
     ensures few { result ≤ 65535 }
 {
     let mut count = 0;

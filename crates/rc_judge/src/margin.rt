@@ -33,7 +33,7 @@ pub(crate) trait Margin {
         requires fresh { M.spent machine.now ≡ false }
         requires decision { StopsAtDecision (M.about machine.now) (M.config machine.now) }
         requires offered { item < length (menu_here (M.about machine.now) (M.config machine.now)) }
-        ensures is { IfOk result (λ row. row_seen row
+        ensures row { IfOk result (λ row. row_seen row
             ≡ marks_row (first_marks (told self.old)) (bounds_here (M.about machine.now) item (M.config machine.now))) }
         ensures told { told self.new ≡ later_marks (told self.old) }
         ensures noted { notes ≡ true → OnOk result

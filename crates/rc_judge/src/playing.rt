@@ -32,7 +32,7 @@ pub(crate) fn record_along<N: Margin>(
     margin: &mut N,
 ) -> Result<u32, Halt>
     requires room { line + lines_in played.now < 2 ^ 32 }
-    ensures is { Judges (λ n. (n, N.told margin.new)) result
+    ensures verdict { Judges (λ n. (n, N.told margin.new)) result
         (along.record_along about.now dealing_of (plan_seen plan.now) number line
         (N.told margin.old) (record_seen played.now)) }
     ensures noted { N.notes ≡ true → OnOk result (N.here margin.new ≡ N.here margin.old
@@ -63,7 +63,7 @@ fn body_along<M: Machine + Drop, N: Margin>(
     requires fresh { M.spent machine ≡ false }
     requires number { number < length plan.now.matches.items }
     requires room { line + lines_in played.now ≤ 2 ^ 32 }
-    ensures is { Judges (λ n. (n, N.told margin.new)) result
+    ensures verdict { Judges (λ n. (n, N.told margin.new)) result
         (along.body_along about.now dealing_of (plan_seen plan.now) number line
         (play_after about.now dealing_of (plan_seen plan.now) number []) (N.told margin.old) (record_seen played.now)) }
     ensures noted { N.notes ≡ true → OnOk result (N.here margin.new ≡ N.here margin.old
@@ -92,7 +92,7 @@ fn picks_along<M: Machine, N: Margin>(
     requires fresh { M.spent machine.old ≡ false }
     requires stands { IsWhereItStops (M.about machine.old) (stop_seen start) (M.config machine.old) }
     requires room { from + length picks.now < 2 ^ 32 }
-    ensures is { (plan : PurePlan) (m : ℕ) → dealing_of (deal_at plan m).deal ≡ dealing_of dealer.old.deal →
+    ensures verdict { (plan : PurePlan) (m : ℕ) → dealing_of (deal_at plan m).deal ≡ dealing_of dealer.old.deal →
         Judges (λ x. (x.0, Some (stopped_of x.1 (M.config machine.new) dealer.new.count), N.told margin.new)) result
         (along.picks_along (M.about machine.old) dealing_of plan m from
         (Some (stopped_of start (M.config machine.old) dealer.old.count)) (N.told margin.old)
@@ -131,7 +131,7 @@ fn end_along<M: Machine>(
     requires about { M.about machine.now ≡ about.now }
     requires fresh { M.spent machine.now ≡ false }
     requires room { line + length (shuffles_told played.now.shuffles) + 1 + length played.now.scores.items < 2 ^ 32 }
-    ensures is { Judges (λ n. n) result
+    ensures verdict { Judges (λ n. n) result
         (along.end_along about.now line (Some (stopped_of stop (M.config machine.now) count))
         (record_seen played.now)) }
     ensures far { IfOk result (λ n. n
@@ -149,7 +149,8 @@ fn end_along<M: Machine>(
 // Judges the shuffles line, which is left out where its number is 0. Answers the line behind it.
 fn told_along(stop: Stop, count: u32, line: u32, told: u32) -> Result<u32, Halt>
     requires room { line + 1 < 2 ^ 32 }
-    ensures is { (c : Config) → Judges (λ n. n) result (along.told_along line (Some (stopped_of stop c count)) told) }
+    ensures verdict { (c : Config)
+        → Judges (λ n. n) result (along.told_along line (Some (stopped_of stop c count)) told) }
     ensures far { IfOk result (λ n. n ≡ line + length (shuffles_told told)) }
 {
     if told == 0 {
@@ -169,7 +170,7 @@ fn scores_along<M: Machine>(
     requires about { M.about machine.now ≡ about.now }
     requires fresh { M.spent machine.now ≡ false }
     requires room { from + length told.now < 2 ^ 32 }
-    ensures is { (stop : Stop) (count : ℕ) → Judges (λ n. n) result
+    ensures verdict { (stop : Stop) (count : ℕ) → Judges (λ n. n) result
         (along.scores_along about.now from (Some (stopped_of stop (M.config machine.now) count)) 0
         (map score_seen told.now)) }
     ensures far { IfOk result (λ n. n ≡ from + length told.now) }

@@ -18,7 +18,7 @@ use rc_rules::{About, Ended, Machine, MatchRecord, Pick, Plan, Score, Scores, St
 
 /// The row of a match line where match `number` of the plan comes next, if there is one.
 pub(crate) fn opening_row(plan: &Plan, number: u32, played: &MatchRecord) -> Option<Why>
-    ensures is { row_seen result ≡ rows.opening_row
+    ensures row { row_seen result ≡ rows.opening_row
         (plan_seen plan.now) number played.now.number played.now.deal played.now.seats }
     ensures there { result ≡ None → number < length plan.now.matches.items }
 {
@@ -36,7 +36,7 @@ pub(crate) fn opening_row(plan: &Plan, number: u32, played: &MatchRecord) -> Opt
 pub(crate) fn stopped_row<M: Machine>(machine: &M, stop: Stop, pick: &Pick) -> Option<Why>
     requires fresh { M.spent machine.now ≡ false }
     requires stands { IsWhereItStops (M.about machine.now) (stop_seen stop) (M.config machine.now) }
-    ensures is { row_seen result ≡ rows.decision_row (M.about machine.now) (pick_seen pick.now) (stop_seen stop)
+    ensures row { row_seen result ≡ rows.decision_row (M.about machine.now) (pick_seen pick.now) (stop_seen stop)
         (M.config machine.now) }
     ensures decision { result ≡ None → StopsAtDecision (M.about machine.now) (M.config machine.now) }
     ensures offered { result ≡ None → pick.now.item < length (menu_here (M.about machine.now) (M.config machine.now)) }
@@ -52,7 +52,7 @@ pub(crate) fn stopped_row<M: Machine>(machine: &M, stop: Stop, pick: &Pick) -> O
 fn decision_row<M: Machine>(machine: &M, seat: u8, site: u8, pick: &Pick) -> Option<Why>
     requires fresh { M.spent machine.now ≡ false }
     requires decides { Decides (M.about machine.now) seat site (M.config machine.now) }
-    ensures is { row_seen result ≡ rows.decision_row (M.about machine.now) (pick_seen pick.now) (decide seat site)
+    ensures row { row_seen result ≡ rows.decision_row (M.about machine.now) (pick_seen pick.now) (decide seat site)
         (M.config machine.now) }
     ensures offered { result ≡ None → pick.now.item < length (menu_here (M.about machine.now) (M.config machine.now)) }
 {
@@ -125,7 +125,7 @@ pub(crate) fn scored_row(
     index: usize,
     told: &Score,
 ) -> Option<Why>
-    ensures is { (about : PureAbout) (c : Config) (stop : Stop) (count : ℕ)
+    ensures row { (about : PureAbout) (c : Config) (stop : Stop) (count : ℕ)
         → scores.now.items ≡ play.scores_of about c.table c.control
         → points.now.items ≡ map (play.rank_points about.sheet scores.now.items) (below about.sheet.players)
         → row_seen result ≡ rows.scored_row about (Some (stopped_of stop c count)) index (score_seen told.now) }
@@ -140,7 +140,7 @@ pub(crate) fn scored_row(
 
 // Whether a score line tells the score and the rank points of the player who comes at this place, if there is one.
 fn is_score(scores: &Scores, points: &ArrayVec<u8, 8>, index: usize, told: &Score) -> bool
-    ensures is { (about : PureAbout) (c : Config) → scores.now.items ≡ play.scores_of about c.table c.control
+    ensures score { (about : PureAbout) (c : Config) → scores.now.items ≡ play.scores_of about c.table c.control
         → points.now.items ≡ map (play.rank_points about.sheet scores.now.items) (below about.sheet.players)
         → result ≡ rows.is_the_score (score_seen told.now) (slice_get (rows.scores_at about c) index) }
     ensures there { result ≡ true → index < length scores.now.items }

@@ -66,7 +66,7 @@ impl From<Memory> for Halt {
 
 /// Stops where a row applies to the line.
 pub(crate) fn on_row(line: u32, row: Option<Why>) -> Result<(), Halt>
-    ensures is { Finds result (at_line line (row_seen row) None) }
+    ensures verdict { Finds result (at_line line (row_seen row) None) }
     ensures free { OnOk result (row ≡ None) }
 {
     match row {

@@ -45,7 +45,8 @@ pub(crate) fn picked_at<M: Machine, C: Chooser, L: Ledger>(
     requires plays { mover job.now.about.value.sheet (M.config machine.now).control.frames
         < job.now.about.value.sheet.players }
     requires asks { IsChoice (C.serves chooser.old) (of_job job.now phase_at (stop_seen stop) (M.config machine.now)) }
-    ensures is { IfOk result (λ pick. Chosen (of_job job.now phase_at (stop_seen stop) (M.config machine.now)) pick) }
+    ensures chosen { IfOk result
+        (λ pick. Chosen (of_job job.now phase_at (stop_seen stop) (M.config machine.now)) pick) }
     ensures notes { OnOk result (record_seen notes.new
         ≡ notes_at job.now.about.value (record_seen notes.old) (stop_seen stop)
         (M.config machine.now) dealer.now.count) }
@@ -115,7 +116,8 @@ fn item_of<M: Machine, C: Chooser, L: Ledger>(
     requires plays { seat < job.now.about.value.sheet.players }
     requires served { C.serves chooser.old job.now.about.value }
     requires need { IsNeed (of_job job.now need_at seat (M.config machine.now)) }
-    ensures is { IfOk result (λ item. Chosen (asks (of_job job.now need_at seat (M.config machine.now))) (Some item)) }
+    ensures chosen { IfOk result
+        (λ item. Chosen (asks (of_job job.now need_at seat (M.config machine.now))) (Some item)) }
     ensures asked { OnOk result (AsksAll (asked_for (of_job job.now need_at seat (M.config machine.now)))
         (C.counts chooser.old) (C.counts chooser.new) steps.old steps.new) }
     ensures lacking { OnErr result (AsksSome (asked_for (of_job job.now need_at seat (M.config machine.now)))

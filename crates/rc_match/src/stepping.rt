@@ -40,7 +40,7 @@ pub(crate) fn go_on<M: Machine>(
     requires deal { DealsFor job.now dealer.old }
     requires fresh { M.spent machine.old ≡ false }
     requires way { of_job job.now IsOnWay (lane_of (M.config machine.old) dealer.old notes.old (ready pick)) }
-    ensures is { IfOk result (λ phase.
+    ensures stepped { IfOk result (λ phase.
         of_job job.now stepped (lane_of (M.config machine.old) dealer.old notes.old (ready pick))
         ≡ Some (lane_of (M.config machine.new) dealer.new notes.new (phase_seen phase))) }
     ensures way { IfOk result
@@ -66,7 +66,7 @@ pub(crate) fn go_to_stop<M: Machine>(
     requires deal { DealsFor job.now dealer.old }
     requires fresh { M.spent machine.old ≡ false }
     requires way { of_job job.now IsOnWay (lane_of (M.config machine.old) dealer.old notes.old (ready pick)) }
-    ensures is { IfOk result (λ stop.
+    ensures stepped { IfOk result (λ stop.
         of_job job.now stepped (lane_of (M.config machine.old) dealer.old notes.old (ready pick))
         ≡ Some (of_job job.now lane_at (record_seen notes.new)
         (stopped_at (stop_seen stop) (M.config machine.new) dealer.new))) }
@@ -177,7 +177,7 @@ fn arrive<M: Machine>(
     requires stands { IsWhereItStops job.now.about.value (stop_seen stop) (M.config machine.now) }
     requires plays { mover job.now.about.value.sheet (M.config machine.now).control.frames
         < job.now.about.value.sheet.players }
-    ensures is { IfOk result
+    ensures phase { IfOk result
         (λ phase. phase_seen phase ≡ of_job job.now phase_at (stop_seen stop) (M.config machine.now)) }
     ensures notes { OnOk result (record_seen notes.new
         ≡ notes_at job.now.about.value (record_seen notes.old) (stop_seen stop)
@@ -237,7 +237,7 @@ fn end<M: Machine>(
 ) -> Result<Phase, Memory>
     requires about { M.about machine.now ≡ job.now.about.value }
     requires fresh { M.spent machine.now ≡ false }
-    ensures is { IfOk result (λ phase. phase_seen phase ≡ over) }
+    ensures phase { IfOk result (λ phase. phase_seen phase ≡ over) }
     ensures notes { OnOk result (record_seen notes.new
         ≡ completed job.now.about.value (record_seen notes.old) (ending_seen stop)
         (M.config machine.now) dealer.now.count) }

@@ -16,7 +16,7 @@ pub fn leads_in(alloc: Global, plan: &Plan, matches: &[MatchRecord]) -> Result<u
     requires strategies { length plan.now.strategies.items ≤ 8 }
     requires matches { length matches.now ≤ most_matches }
     requires each { All (λ r. length r.scores.items ≡ length plan.now.strategies.items) matches.now }
-    ensures is { IfOk result (λ n. n ≡ leads.leads_in (plan_seen plan.now) (map record_seen matches.now)) }
+    ensures leads { IfOk result (λ n. n ≡ leads.leads_in (plan_seen plan.now) (map record_seen matches.now)) }
     ensures few { IfOk result (λ n. n ≤ most_matches) }
 {
     let mut points = points_of(alloc, plan, &matches[..0])?;
@@ -44,7 +44,7 @@ fn next_points(
     requires each { length played.now.scores.items ≡ length plan.now.strategies.items }
     requires all { length points.now ≡ length plan.now.strategies.items }
     requires small { (k : ℕ) → slice_index points.now k ≤ 8353800 }
-    ensures is { IfOk result (λ next. (k : ℕ) → k < length plan.now.strategies.items → slice_index next.items k
+    ensures points { IfOk result (λ next. (k : ℕ) → k < length plan.now.strategies.items → slice_index next.items k
         ≡ slice_index points.now k + house.points_in (plan_seen plan.now) k (record_seen played.now)) }
     ensures len { IfOk result (λ next. length next.items ≡ length plan.now.strategies.items) }
     ensures small { IfOk result (λ next. (most : ℕ) → ((k : ℕ) → slice_index points.now k ≤ most)
@@ -74,7 +74,7 @@ fn leader(points: &[u32]) -> usize
 pub fn best_in(plan: &Plan, matches: &[MatchRecord], strategy: usize) -> u64
     requires strategies { length plan.now.strategies.items ≤ 8 }
     requires each { All (λ r. length r.scores.items ≡ length plan.now.strategies.items) matches.now }
-    ensures is { result ≡ count_by (leads.is_best_in (plan_seen plan.now) strategy) (map record_seen matches.now) }
+    ensures count { result ≡ count_by (leads.is_best_in (plan_seen plan.now) strategy) (map record_seen matches.now) }
     ensures few { result ≤ length matches.now }
 {
     let mut count = 0;

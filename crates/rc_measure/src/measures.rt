@@ -61,7 +61,7 @@ pub fn measures_of(alloc: Global, plan: &Plan, matches: &[MatchRecord]) -> Resul
     requires scores { All (λ r. length r.scores.items ≡ length plan.now.strategies.items) matches.now }
     requires clamped { All (λ r. All (λ s. IsWithinClamp s.score) r.scores.items) matches.now }
     requires picks { All (λ r. length r.picks.items ≤ most_picks) matches.now }
-    ensures is { IfOk result (λ m. measures_seen m
+    ensures measures { IfOk result (λ m. measures_seen m
         ≡ measured.measures_of (plan_seen plan.now) (map record_seen matches.now)) }
     ensures numbers { IfOk result (λ m. HasNumbers (measures_seen m)) }
 {
@@ -164,7 +164,7 @@ fn pair(alloc: Global, a: u64, b: u64) -> Result<Vec<i64>, Memory>
 // How many matches ended by the turn limit.
 fn limits_in(matches: &[MatchRecord]) -> u64
     requires matches { length matches.now ≤ most_matches }
-    ensures is { result ≡ count_by measured.is_limited (map record_seen matches.now) }
+    ensures count { result ≡ count_by measured.is_limited (map record_seen matches.now) }
     ensures few { result ≤ length matches.now }
 {
     let mut count = 0;
@@ -272,7 +272,7 @@ fn seat_row(alloc: Global, seat: u8, tally: Tally, points: u64) -> Result<Vec<i6
 fn seat_points(matches: &[MatchRecord], seat: usize) -> u64
     requires matches { length matches.now ≤ most_matches }
     requires seat { All (λ r. seat < length r.scores.items) matches.now }
-    ensures is { result ≡ measured.seat_points (map record_seen matches.now) seat }
+    ensures points { result ≡ measured.seat_points (map record_seen matches.now) seat }
     ensures small { result ≤ 255 * length matches.now }
 {
     let mut points = 0;

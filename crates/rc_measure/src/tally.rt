@@ -38,7 +38,7 @@ pub fn tallies_by(plan: &Plan, matches: &[MatchRecord], by: GroupBy) -> [Tally; 
     requires strategies { length plan.now.strategies.items ≤ 8 }
     requires matches { length matches.now ≤ most_matches }
     requires few { All (λ r. length r.picks.items ≤ most_picks) matches.now }
-    ensures is { (group : ℕ) (other : Tally) → group < 64 → tally_seen (slice_index_or result group other)
+    ensures tallies { (group : ℕ) (other : Tally) → group < 64 → tally_seen (slice_index_or result group other)
         ≡ tally_where (groups.in_group (plan_seen plan.now) by group) (map record_seen matches.now) }
     ensures small { All (HasAtMost most_choices) result }
 {
@@ -58,7 +58,7 @@ fn count_match(tallies: &mut [Tally; GROUPS], plan: &Plan, played: &MatchRecord,
     requires strategies { length plan.now.strategies.items ≤ 8 }
     requires few { length played.now.picks.items ≤ most_picks }
     requires small { All (HasAtMost (most_choices - most_picks)) tallies.old }
-    ensures is { tallies.new
+    ensures tallies { tallies.new
         ≡ groups.counted (plan_seen plan.now) by played.now.number played.now.picks.items tallies.old }
     ensures small { (n : ℕ) → All (HasAtMost n) tallies.old
         → All (HasAtMost (n + length played.now.picks.items)) tallies.new }
@@ -71,7 +71,7 @@ fn count_match(tallies: &mut [Tally; GROUPS], plan: &Plan, played: &MatchRecord,
 // One choice more in its group.
 fn count(tallies: &mut [Tally; GROUPS], group: usize, pick: Pick)
     requires small { All (HasAtMost (most_choices - 1)) tallies.old }
-    ensures is { tallies.new ≡ groups.with_pick_in tallies.old group pick }
+    ensures tallies { tallies.new ≡ groups.with_pick_in tallies.old group pick }
     ensures small { (n : ℕ) → All (HasAtMost n) tallies.old → All (HasAtMost (n + 1)) tallies.new }
 {
     if group < GROUPS {

@@ -41,7 +41,7 @@ pub(crate) fn offered_alike(scene: &Scene, scope: &Bindings, inner: &Alt) -> Opt
 
 // How many different values these cards have for an attribute.
 fn count_values(scene: &Scene, cards: &Collection, name: u16) -> usize
-    ensures is { result ≡ length (groups_by (scene_seen scene.now) name cards.now) }
+    ensures count { result ≡ length (groups_by (scene_seen scene.now) name cards.now) }
     ensures few { result ≤ most_in_collection }
 {
     let mut values = Values::new();
@@ -59,7 +59,7 @@ pub(crate) fn groups_of(
 ) -> usize
     requires known { AreGroupsOf (scene_seen scene.now) scope.now (coll_seen cards.now) name known }
     requires domain { length scope.now + coll_depth (coll_seen cards.now) ≤ 5 }
-    ensures is { result ≡ length (groups_by (scene_seen scene.now) name
+    ensures count { result ≡ length (groups_by (scene_seen scene.now) name
         (coll_value (scene_seen scene.now) scope.now (coll_seen cards.now))) }
     ensures few { result ≤ most_in_collection }
 {
@@ -72,7 +72,7 @@ pub(crate) fn groups_of(
 // How many there are. None is made.
 fn count_groups(scene: &Scene, scope: &Bindings, cards: &CollExpr, name: u16) -> usize
     requires domain { length scope.now + coll_depth (coll_seen cards.now) ≤ 5 }
-    ensures is { result ≡ length (groups_by (scene_seen scene.now) name
+    ensures count { result ≡ length (groups_by (scene_seen scene.now) name
         (coll_value (scene_seen scene.now) scope.now (coll_seen cards.now))) }
     ensures few { result ≤ most_in_collection }
 {
@@ -86,7 +86,7 @@ fn count_groups(scene: &Scene, scope: &Bindings, cards: &CollExpr, name: u16) ->
 #[inline(never)]
 fn count_built_groups(scene: &Scene, scope: &Bindings, cards: &CollExpr, name: u16) -> usize
     requires domain { length scope.now + coll_depth (coll_seen cards.now) ≤ 5 }
-    ensures is { result ≡ length (groups_by (scene_seen scene.now) name
+    ensures count { result ≡ length (groups_by (scene_seen scene.now) name
         (coll_value (scene_seen scene.now) scope.now (coll_seen cards.now))) }
     ensures few { result ≤ most_in_collection }
 {

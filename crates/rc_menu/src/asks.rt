@@ -54,7 +54,7 @@ pub(crate) struct Parts {
 /// How a value is wanted, asked by the row of all cards' values.
 #[inline(always)]
 pub(crate) fn ask_in<'t>(row: &'t [Option<u16>], wanted: WantedValue) -> CardAsk<'t>
-    ensures is { (id : ℕ) → met_value id result ≡ meets wanted (slice_index_or row.now id None) }
+    ensures value { (id : ℕ) → met_value id result ≡ meets wanted (slice_index_or row.now id None) }
     ensures by_row { asks_value result ≡ true }
 {
     match wanted.value {
@@ -73,7 +73,7 @@ pub(crate) fn ask_in<'t>(row: &'t [Option<u16>], wanted: WantedValue) -> CardAsk
 fn ask_by<'t>(scene: &'t Scene, scope: &Bindings, wanted: WantedValue, test: &'t Test) -> CardAsk<'t>
     requires wanted { IsWanted (scene_seen scene.now) scope.now (test_seen test.now) wanted }
     requires deep { length scope.now + (1 + test_depth (test_seen test.now)) ≤ 5 }
-    ensures is { (c : CardValue) → told_of (scene_seen scene.now) scope.now (test_seen test.now) c
+    ensures value { (c : CardValue) → told_of (scene_seen scene.now) scope.now (test_seen test.now) c
         ≡ ask_value (scene_seen scene.now) scope.now c result }
     ensures fits { length scope.now + ask_depth result ≤ 5 }
 {
@@ -85,7 +85,7 @@ fn ask_by<'t>(scene: &'t Scene, scope: &Bindings, wanted: WantedValue, test: &'t
 
 fn ask_of<'t>(scene: &'t Scene, scope: &Bindings, test: &'t Test) -> CardAsk<'t>
     requires deep { length scope.now + (1 + test_depth (test_seen test.now)) ≤ 5 }
-    ensures is { (c : CardValue) → told_of (scene_seen scene.now) scope.now (test_seen test.now) c
+    ensures value { (c : CardValue) → told_of (scene_seen scene.now) scope.now (test_seen test.now) c
         ≡ ask_value (scene_seen scene.now) scope.now c result }
     ensures fits { length scope.now + ask_depth result ≤ 5 }
 {
@@ -158,7 +158,7 @@ fn settles<'t>(
     requires deep { length scope.now + (1 + test_depth (test_seen test.now)) ≤ 5 }
     requires room { length asks.old.items < 4 }
     requires fit { AllFit scope.now asks.old.items }
-    ensures is { IsJoined (scene_seen scene.now) scope.now
+    ensures joined { IsJoined (scene_seen scene.now) scope.now
         (test_seen test.now) any result asks.old.items asks.new.items }
     ensures count { length asks.new.items ≤ length asks.old.items + 1 }
     ensures fit { AllFit scope.now asks.new.items }
@@ -185,7 +185,7 @@ fn settles_whole<'t>(
     requires deep { length scope.now + (1 + test_depth (test_seen test.now)) ≤ 5 }
     requires room { length asks.old.items < 4 }
     requires fit { AllFit scope.now asks.old.items }
-    ensures is { IsJoined (scene_seen scene.now) scope.now
+    ensures joined { IsJoined (scene_seen scene.now) scope.now
         (test_seen test.now) any result asks.old.items asks.new.items }
     ensures count { length asks.new.items ≤ length asks.old.items + 1 }
     ensures fit { AllFit scope.now asks.new.items }
@@ -209,7 +209,7 @@ fn all_settle<'t>(
     requires few { length tests.now.items ≤ 4 }
     requires deep { length scope.now + (1 + tests_depth (tests_seen tests.now.items)) ≤ 5 }
     requires empty { asks.old.items ≡ [] }
-    ensures is { (c : CardValue) → joined any
+    ensures joined { (c : CardValue) → joined any
         (tests_value (scene_seen scene.now) (scope.now ++ card_bound c ∷ []) (tests_seen tests.now.items))
         ≡ (if result then any else joined any (map (ask_value (scene_seen scene.now) scope.now c) asks.new.items)) }
     ensures fit { AllFit scope.now asks.new.items }
@@ -232,7 +232,7 @@ fn single_part<'t>(
 ) -> Parts
     requires deep { length scope.now + (1 + test_depth (test_seen guard.now)) ≤ 5 }
     requires empty { asks.old.items ≡ [] }
-    ensures is { IsInParts (scene_seen scene.now) scope.now (test_seen guard.now) result asks.new.items }
+    ensures parts { IsInParts (scene_seen scene.now) scope.now (test_seen guard.now) result asks.new.items }
     ensures fit { AllFit scope.now asks.new.items }
 {
     Parts {
@@ -250,7 +250,7 @@ fn outer_parts<'t>(
 ) -> Parts
     requires deep { length scope.now + (1 + test_depth (test_seen guard.now)) ≤ 5 }
     requires empty { asks.old.items ≡ [] }
-    ensures is { IsInParts (scene_seen scene.now) scope.now (test_seen guard.now) result asks.new.items }
+    ensures parts { IsInParts (scene_seen scene.now) scope.now (test_seen guard.now) result asks.new.items }
     ensures fit { AllFit scope.now asks.new.items }
 {
     match guard {
@@ -381,7 +381,7 @@ pub(crate) fn parts_of<'t>(
 ) -> Parts
     requires deep { length scope.now + (1 + test_depth (test_seen guard.now)) ≤ 5 }
     requires empty { asks.old.items ≡ [] }
-    ensures is { IsInParts (scene_seen scene.now) scope.now (test_seen guard.now) result asks.new.items }
+    ensures parts { IsInParts (scene_seen scene.now) scope.now (test_seen guard.now) result asks.new.items }
     ensures fit { AllFit scope.now asks.new.items }
 {
     let parts = outer_parts(scene, scope, guard, asks);

@@ -368,7 +368,7 @@ fn offer_group(
 /// There is no memory for a menu.
 pub fn menu_of(alloc: Global, scene: &Scene, site: u8, alts: &[Alt]) -> Result<Items, Memory>
     requires site { alts_seen alts.now ≡ alts_at (scene_seen scene.now).known.sheet site }
-    ensures is { IfOk result (λ menu. menu_seen menu.items ≡ pure_menu_of (scene_seen scene.now) site) }
+    ensures menu { IfOk result (λ menu. menu_seen menu.items ≡ pure_menu_of (scene_seen scene.now) site) }
     ensures alike { IfOk result (λ menu. EqualAtAlike scene.now site (menu_seen menu.items)) }
 {
     let mut menu = Items::new(alloc)?;
@@ -379,7 +379,7 @@ pub fn menu_of(alloc: Global, scene: &Scene, site: u8, alts: &[Alt]) -> Result<I
 /// The same, written into a menu, whatever it held before.
 pub fn fill_menu(scene: &Scene, site: u8, alts: &[Alt], menu: &mut Items)
     requires site { alts_seen alts.now ≡ alts_at (scene_seen scene.now).known.sheet site }
-    ensures is { menu_seen menu.new.items ≡ pure_menu_of (scene_seen scene.now) site }
+    ensures menu { menu_seen menu.new.items ≡ pure_menu_of (scene_seen scene.now) site }
     ensures alike { EqualAtAlike scene.now site (menu_seen menu.new.items) }
 {
     alike_states_have_equal_menus();

@@ -103,7 +103,7 @@ pub(crate) fn is_filled(menu: &Items) -> bool
 fn put_at(menu: &mut Items, item: &Item, spot: u16) -> bool
     requires spots { length item.now.spots.items < 4 }
     requires free { length menu.old.items < most_items }
-    ensures is { menu_seen menu.new.items ≡ take most_items (menu_seen menu.old.items
+    ensures menu { menu_seen menu.new.items ≡ take most_items (menu_seen menu.old.items
         ++ extended (extended (item_seen item.now) (spot ∷ [])) [] ∷ []) }
     ensures full { result ≡ true → length menu.new.items ≡ most_items }
     ensures free { result ≡ false → length menu.new.items < most_items }
@@ -132,7 +132,7 @@ fn push_behind(menu: &mut Items, item: &Item, spot: u16)
 fn put_at_if(menu: &mut Items, item: &Item, spot: u16, passes: bool) -> bool
     requires spots { length item.now.spots.items < 4 }
     requires free { length menu.old.items < most_items }
-    ensures is { menu_seen menu.new.items ≡ take most_items (menu_seen menu.old.items
+    ensures menu { menu_seen menu.new.items ≡ take most_items (menu_seen menu.old.items
         ++ (if passes then extended (extended (item_seen item.now) (spot ∷ [])) [] ∷ [] else [])) }
     ensures full { result ≡ true → length menu.new.items ≡ most_items }
     ensures free { result ≡ false → length menu.new.items < most_items }

@@ -95,7 +95,7 @@ fn part_settles<'t>(
     requires fixed { IsFixedPart part.now }
     requires room { length asks.old.items < 4 }
     requires sought { list_all asks_value asks.old.items ≡ true }
-    ensures is { IfSome result (λ settled. IsJoined (scene_seen scene.now) scope.now
+    ensures joined { IfSome result (λ settled. IsJoined (scene_seen scene.now) scope.now
         (part_meant part.now) any settled asks.old.items asks.new.items) }
     ensures count { length asks.new.items ≤ length asks.old.items + 1 }
     ensures sought { list_all asks_value asks.new.items ≡ true }
@@ -126,7 +126,7 @@ fn parts_settle<'t>(
     requires fixed { All IsFixedPart parts.now }
     requires few { length parts.now ≤ 4 }
     requires empty { asks.old.items ≡ [] }
-    ensures is { IfSome result (λ settled. (c : CardValue)
+    ensures joined { IfSome result (λ settled. (c : CardValue)
         → joined any (parts_told (scene_seen scene.now) scope.now parts.now c)
         ≡ (if settled then any else joined any (map (ask_value (scene_seen scene.now) scope.now c) asks.new.items))) }
     ensures sought { list_all asks_value asks.new.items ≡ true }
@@ -156,7 +156,7 @@ pub(crate) fn known_parts<'t>(
     requires outside { scope.now ≡ [] }
     requires fixed { IsFixedGuard guard.now }
     requires empty { asks.old.items ≡ [] }
-    ensures is { IfSome result (λ parts. IsInParts (scene_seen scene.now) scope.now
+    ensures parts { IfSome result (λ parts. IsInParts (scene_seen scene.now) scope.now
         (guard_meant guard.now) parts asks.new.items) }
     ensures sought { list_all asks_value asks.new.items ≡ true }
 {

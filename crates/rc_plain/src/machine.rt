@@ -217,7 +217,7 @@ impl Machine for PlainMachine {
 
     fn menu_size(&self) -> usize
         requires decision { StopsAtDecision self.now.about (config_of self.now) }
-        ensures is { result ≡ length (menu_here self.now.about (config_of self.now)) }
+        ensures count { result ≡ length (menu_here self.now.about (config_of self.now)) }
         ensures few { result ≤ most_items }
     {
         self.state.menu.len()

@@ -102,7 +102,7 @@ impl Path {
 
     /// The item that is next, if there is one more in the body that runs.
     pub fn item<'a>(&self, about: &'a About) -> Option<&'a SheetItem>
-        ensures is { option_map (λ item. item_seen item.now) result ≡ item_at about.now.sheet self.now }
+        ensures item { option_map (λ item. item_seen item.now) result ≡ item_at about.now.sheet self.now }
         ensures fits { IsSome result → self.now.next + 1 < 2 ^ 64 }
     {
         item_in(
@@ -147,7 +147,7 @@ fn alts_in(item: &SheetItem) -> &[Alt]
 
 /// The item at a place.
 fn item_in(items: &[SheetItem], place: usize) -> Option<&SheetItem>
-    ensures is { option_map (λ item. item_seen item.now) result ≡ slice_get (map item_seen items.now) place }
+    ensures item { option_map (λ item. item_seen item.now) result ≡ slice_get (map item_seen items.now) place }
     ensures fits { IsSome result → place + 1 < 2 ^ 64 }
 {
     items.get(place)

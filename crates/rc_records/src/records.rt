@@ -84,7 +84,7 @@ pub fn record_of<C: Chooser, L: Ledger>(
     requires seats { IsPlanFor about.now.value plan.now.value }
 
     // The record is the one that the definitions give for this match of the plan.
-    ensures is { IfOk result (λ p. keyed_match about.now.value (plan_seen plan.now.value) number
+    ensures record { IfOk result (λ p. keyed_match about.now.value (plan_seen plan.now.value) number
         ≡ Some (played_seen p)) }
     ensures each { IfOk result (λ p. length p.record.scores.items ≡ about.now.value.sheet.players) }
 

@@ -31,7 +31,7 @@ pub trait Chooser {
     ) -> Result<u16, Memory>
         requires served { serves self.old (need_seen need.now).about }
         requires need { IsNeed (need_seen need.now) }
-        ensures is { IfOk result (λ item. item
+        ensures choice { IfOk result (λ item. item
             ≡ choice_of (need_seen need.now).about (need_seen need.now).strategy (need_seen need.now).seed
             (need_seen need.now).view) }
         ensures counted { OnOk result

@@ -13,7 +13,7 @@ use std::alloc::Global;
 pub(crate) fn left_by(alloc: Global, shape: &Shape, taken: &Taken) -> Result<Vec<u16>, Memory>
     requires { Marks shape.now taken.now.ids.items taken.now.marks.items }
     ensures few { IfOk result (λ ids. length ids.items ≤ most_cards) }
-    ensures is { IfOk result (λ ids. ids.items ≡ unused shape.now taken.now.ids.items) }
+    ensures unused { IfOk result (λ ids. ids.items ≡ unused shape.now taken.now.ids.items) }
 {
     // what a shape keeps
     let _players = shape.players();

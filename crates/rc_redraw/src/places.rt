@@ -100,7 +100,7 @@ pub(crate) fn push_pattern(
 pub(crate) fn blend(content: &mut [u16], pattern: &[Option<u16>], hidden: &[u16])
     requires each { length content.old ≡ length pattern.now }
     requires exact { blanks pattern.now ≡ length hidden.now }
-    ensures is { content.new ≡ blended pattern.now hidden.now }
+    ensures blended { content.new ≡ blended pattern.now hidden.now }
     ensures each { length content.new ≡ length content.old }
 {
     if hidden.len() == pattern.len() {
@@ -114,7 +114,7 @@ pub(crate) fn blend(content: &mut [u16], pattern: &[Option<u16>], hidden: &[u16]
 fn blend_known(content: &mut [u16], pattern: &[Option<u16>], hidden: &[u16])
     requires each { length content.old ≡ length pattern.now }
     requires enough { blanks pattern.now ≤ length hidden.now }
-    ensures is { content.new ≡ blended pattern.now hidden.now }
+    ensures blended { content.new ≡ blended pattern.now hidden.now }
     ensures each { length content.new ≡ length content.old }
 {
     let mut other = 0;

@@ -101,7 +101,7 @@ impl<'v> Redraws<'v> {
     /// smallest ids of their faces, numbers are those of the view, and the cards that are known without being shown are
     /// marked for its seat. The table is sound, and what the seat sees of it is the view.
     pub fn deal(&mut self, key: &[u8; 32])
-        ensures is { self.new ≡ redealt key.now self.old }
+        ensures redealt { self.new ≡ redealt key.now self.old }
         ensures sound { IsSound self.new.shape self.new.table }
         ensures view { view_of self.new.shape self.new.view.seat self.new.table self.new.view.control ≡ self.new.view }
     {
@@ -133,7 +133,7 @@ impl<'v> Redraws<'v> {
 fn shuffle(order: &mut Vec<u16>, ids: &[u16], key: &[u8; 32])
     requires each { length order.old.items ≡ length ids.now }
     requires few { length ids.now ≤ most_cards }
-    ensures is { order.new.items ≡ permuted key.now ids.now }
+    ensures permuted { order.new.items ≡ permuted key.now ids.now }
     ensures each { length order.new.items ≡ length ids.now }
 {
     order.copy_from_slice(ids);
@@ -148,7 +148,7 @@ pub fn redraw(
     key: &[u8; 32],
 ) -> Result<Table, Memory>
     requires { IsViewOfSound shape.now.value (view_seen view.now) }
-    ensures is { IfOk result (λ table. table ≡ record {
+    ensures table { IfOk result (λ table. table ≡ record {
       shape = shape.now.value;
       table = redraw_of shape.now.value (view_seen view.now) key.now;
     }) }

@@ -177,7 +177,8 @@ fn record_of<C: Chooser, L: Ledger>(
     requires number { number < length plan.now.value.matches.items }
     requires seats { IsPlanFor about.now.value plan.now.value }
     requires rival { IsRival rival.now }
-    ensures is { IfOk result (λ r. rival_match about.now.value (rival_seen rival.now) (plan_seen plan.now.value) number
+    ensures record { IfOk result
+        (λ r. rival_match about.now.value (rival_seen rival.now) (plan_seen plan.now.value) number
         ≡ Some (record_seen r)) }
     ensures each { IfOk result (λ r. length r.scores.items ≡ about.now.value.sheet.players) }
     ensures same { (other : PureAbout) → C.serves chooser.old other → C.serves chooser.new other }

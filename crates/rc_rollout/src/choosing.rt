@@ -36,7 +36,7 @@ pub fn choose<M: Memo, L: Ledger>(
     requires served { Serves (M.serves memo.old) (need_seen need.now).about }
     requires need { IsNeed (need_seen need.now) }
     requires code { StandsFor (need_seen need.now).about.sheet (code_seen code.now.value) }
-    ensures is { IfOk result (λ item. item
+    ensures choice { IfOk result (λ item. item
         ≡ choice_of (need_seen need.now).about (need_seen need.now).strategy (need_seen need.now).seed
         (need_seen need.now).view) }
     ensures counted { OnOk result (Chooses (need_seen need.now) (M.counts memo.old)
@@ -141,7 +141,7 @@ fn best_of<M: Memo, L: Ledger>(
     requires at { IsAtDecision (key_seen key.now).about (key_seen key.now).ask.view }
     requires menu { menu ≡ strategy.menu_size (key_seen key.now).about (key_seen key.now).ask.view }
     requires code { StandsFor (key_seen key.now).about.sheet (code_seen code.now.value) }
-    ensures is { IfOk result (λ item. item
+    ensures item { IfOk result (λ item. item
         ≡ strategy.first_largest (tally_of (key_seen key.now).about (key_seen key.now).ask)) }
     ensures counted { OnOk result (Asks (key_seen key.now) (M.counts memo.old)
         (M.counts memo.new) steps.old steps.new) }
@@ -173,7 +173,7 @@ fn best_played<M: Memo, L: Ledger>(
     requires at { IsAtDecision (key_seen key.now).about (key_seen key.now).ask.view }
     requires menu { menu ≡ strategy.menu_size (key_seen key.now).about (key_seen key.now).ask.view }
     requires code { StandsFor (key_seen key.now).about.sheet (code_seen code.now.value) }
-    ensures is { IfOk result (λ item. item
+    ensures item { IfOk result (λ item. item
         ≡ strategy.first_largest (tally_of (key_seen key.now).about (key_seen key.now).ask)) }
     ensures kept { OnOk result (M.counts memo.new ≡ kept_once (key_seen key.now) (M.counts memo.old)) }
     ensures lacking { OnErr result (memo.new ≡ memo.old) }
@@ -192,7 +192,7 @@ fn best_played<M: Memo, L: Ledger>(
 
 /// The place of the first of the largest totals.
 pub fn first_largest(totals: &[u32]) -> usize
-    ensures is { result ≡ strategy.first_largest totals.now }
+    ensures first { result ≡ strategy.first_largest totals.now }
     ensures within { result ≤ length totals.now }
 {
     first_of(totals, largest(totals))
@@ -200,7 +200,7 @@ pub fn first_largest(totals: &[u32]) -> usize
 
 // The place of the first total of this size, or how many there are.
 fn first_of(totals: &[u32], size: u32) -> usize
-    ensures is { result ≡ position_or_len (λ total. total == size) totals.now }
+    ensures first { result ≡ position_or_len (λ total. total == size) totals.now }
     ensures within { result ≤ length totals.now }
 {
     for place in 0..totals.len() {

@@ -53,7 +53,7 @@ pub trait Machine {
     fn menu_size(&self) -> usize
         requires fresh { spent self.now ≡ false }
         requires decision { StopsAtDecision (about self.now) (config self.now) }
-        ensures is { result ≡ length (menu_here (about self.now) (config self.now)) }
+        ensures count { result ≡ length (menu_here (about self.now) (config self.now)) }
         ensures few { result ≤ most_items };
 
     /// What an item of the menu binds.

@@ -21,7 +21,7 @@ pub fn offhand_of(
     size: u16,
 ) -> Option<u16>
     requires { 0 < size }
-    ensures is { result ≡ offhand_of (strategy_seen strategy.now) seed seat (control_seen control.now) size }
+    ensures item { result ≡ offhand_of (strategy_seen strategy.now) seed seat (control_seen control.now) size }
     ensures below { IfSome result (λ item. item < size) }
 {
     match strategy {
@@ -44,7 +44,7 @@ pub fn made_by(control: &Control, seat: u8) -> u32
 /// The script's number for the decision, modulo the size of the menu; behind the last number it is 0.
 pub fn scripted_item(numbers: &[u16], decision: u32, size: u16) -> u16
     requires { 0 < size }
-    ensures is { result ≡ scripted_item numbers.now decision size }
+    ensures item { result ≡ scripted_item numbers.now decision size }
     ensures below { result < size }
 {
     match numbers.get(decision as usize) {
@@ -56,7 +56,7 @@ pub fn scripted_item(numbers: &[u16], decision: u32, size: u16) -> u16
 /// The pick below the size by the key of the strategy's key, the seat, the seed and the turn count.
 pub fn keyed_pick(key: u64, seed: u64, seat: u8, turn: u32, size: u16) -> u16
     requires { 0 < size }
-    ensures is { result ≡ keyed.pick key (drawn_for seat picks) seed turn size }
+    ensures item { result ≡ keyed.pick key (drawn_for seat picks) seed turn size }
     ensures below { result < size }
 {
     let key = key32(key, Purpose::Pick.of(seat), seed, turn as u64);

@@ -40,7 +40,7 @@ pub fn rank_points_of(sheet: &Sheet, scores: &Scores, player: u8) -> u8
 // What a player of this team, which has this score, gets for a player of the other one.
 fn points_against(sheet: &Sheet, scores: &Scores, team: usize, score: i128, other: usize) -> u8
     requires { score ≡ play.team_score (sheet_seen sheet.now) scores.now.items team }
-    ensures is { result ≡ play.points_against (sheet_seen sheet.now) scores.now.items team other }
+    ensures points { result ≡ play.points_against (sheet_seen sheet.now) scores.now.items team other }
     ensures few { result ≤ 2 }
 {
     if team == other {

@@ -63,7 +63,7 @@ impl SearchDealer {
 
     /// How many shuffles were made.
     pub(crate) fn shuffle_count(&self) -> u64
-        ensures is { result ≡ self.now.made }
+        ensures count { result ≡ self.now.made }
         ensures few { result < 281474976710656 }
     {
         self.made

@@ -44,7 +44,7 @@ pub(crate) fn behind<L: Ledger>(
     requires made { made < 281474976710656 }
     requires rooms { AreOfShape about.now.shape rooms.old }
     requires few { applied.old ≤ 18446744073709551615 }
-    ensures is { IfOk result (λ found. found.items
+    ensures worth { IfOk result (λ found. found.items
         ≡ worth_behind about.now way.now depth machine.old.config made item) }
     ensures stays { OnOk result (StaysInMatch machine.old machine.new) }
     ensures rooms { OnOk result (AreOfShape about.now.shape rooms.new) }
@@ -85,7 +85,7 @@ fn worth<L: Ledger>(
     requires made { made < 281474976710656 }
     requires rooms { AreOfShape about.now.shape rooms.old }
     requires few { applied.old ≤ 18446744073709551615 }
-    ensures is { IfOk result (λ found. found.items
+    ensures worth { IfOk result (λ found. found.items
         ≡ worth_at about.now way.now depth (stop_seen stop) machine.old.config made) }
     ensures stays { OnOk result (StaysInMatch machine.old machine.new) }
     ensures rooms { OnOk result (AreOfShape about.now.shape rooms.new) }
@@ -138,7 +138,7 @@ fn best<L: Ledger>(
     requires made { made < 281474976710656 }
     requires rooms { AreOfShape about.now.shape rooms.old }
     requires few { applied.old ≤ 18446744073709551615 }
-    ensures is { IfOk result (λ found. found.items ≡ best_for seat
+    ensures worth { IfOk result (λ found. found.items ≡ best_for seat
         (worths about.now way.now depth machine.old.config made
         (length (menu_at about.now site machine.old.config.table machine.old.config.control)))) }
     ensures stays { OnOk result (StaysInMatch machine.old machine.new) }

@@ -56,7 +56,7 @@ pub fn play_rival<M: Machine + Drop, C: Chooser, L: Ledger>(
 
     // The record is the one that the definitions give for this match of the plan, in which the seat with the rival's
     // strategy searches.
-    ensures is { IfOk result (λ r.
+    ensures record { IfOk result (λ r.
         rival_match job.now.about.value (rival_seen rival.now) (plan_seen job.now.plan.value) job.now.number
         ≡ Some (record_seen r)) }
     ensures each { IfOk result (λ r. length r.scores.items ≡ job.now.about.value.sheet.players) }
@@ -99,7 +99,7 @@ fn next_item<C: Chooser, L: Ledger>(
     requires code { StandsFor job.now.about.value.sheet (code_seen code.now.value) }
     requires rival { IsRival rival.now }
     requires asked { of_job job.now IsAsked (phase_seen phase.now) }
-    ensures is { IfOk result (Chosen job.now.about.value (rival_seen rival.now)
+    ensures chosen { IfOk result (Chosen job.now.about.value (rival_seen rival.now)
         (plan_seen job.now.plan.value) job.now.number
         (phase_seen phase.now)) }
     ensures same { (about : PureAbout) → C.serves chooser.old about → C.serves chooser.new about }
@@ -130,7 +130,7 @@ fn item_of<C: Chooser, L: Ledger>(
     requires rival { IsRival rival.now }
     requires need { IsNeed (need_seen need.now) }
     requires of { of_job job.now IsOfMatch (need_seen need.now) }
-    ensures is { IfOk result (λ item. item
+    ensures choice { IfOk result (λ item. item
         ≡ rival_choice job.now.about.value (rival_seen rival.now) (plan_seen job.now.plan.value) job.now.number
         need.now.view.seat (view_seen need.now.view)) }
     ensures same { (about : PureAbout) → C.serves chooser.old about → C.serves chooser.new about }

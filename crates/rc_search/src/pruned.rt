@@ -54,7 +54,7 @@ pub(crate) fn behind_within<L: Ledger>(
     requires few { applied.old ≤ 18446744073709551615 }
     requires bounds { low ≤ high }
     requires top { high ≤ most_for about.now.sheet way.now.seat }
-    ensures is { IfOk result (λ found. found
+    ensures value { IfOk result (λ found. found
         ≡ bounded_to low high (value_behind about.now way.now depth machine.old.config made item)) }
     ensures stays { OnOk result (StaysInMatch machine.old machine.new) }
     ensures rooms { OnOk result (AreOfShape about.now.shape rooms.new) }
@@ -103,7 +103,7 @@ fn worth_within<L: Ledger>(
     requires few { applied.old ≤ 18446744073709551615 }
     requires bounds { low ≤ high }
     requires top { high ≤ most_for about.now.sheet way.now.seat }
-    ensures is { IfOk result (λ found. found
+    ensures value { IfOk result (λ found. found
         ≡ bounded_to low high (value_at about.now way.now depth (stop_seen stop) machine.old.config made)) }
     ensures stays { OnOk result (StaysInMatch machine.old machine.new) }
     ensures rooms { OnOk result (AreOfShape about.now.shape rooms.new) }
@@ -184,7 +184,7 @@ fn most_within<L: Ledger>(
     requires few { applied.old ≤ 18446744073709551615 }
     requires bounds { low ≤ high }
     requires top { high ≤ most_for about.now.sheet way.now.seat }
-    ensures is { IfOk result (λ found. found ≡ bounded_to low high (fold max 0
+    ensures value { IfOk result (λ found. found ≡ bounded_to low high (fold max 0
         (values about.now way.now depth machine.old.config made
         (length (menu_at about.now site machine.old.config.table machine.old.config.control))))) }
     ensures stays { OnOk result (StaysInMatch machine.old machine.new) }
@@ -238,7 +238,7 @@ fn least_within<L: Ledger>(
     requires few { applied.old ≤ 18446744073709551615 }
     requires bounds { low ≤ high }
     requires top { high ≤ most_for about.now.sheet way.now.seat }
-    ensures is { IfOk result (λ found. found ≡ bounded_to low high (fold min (most_for about.now.sheet way.now.seat)
+    ensures value { IfOk result (λ found. found ≡ bounded_to low high (fold min (most_for about.now.sheet way.now.seat)
         (values about.now way.now depth machine.old.config made
         (length (menu_at about.now site machine.old.config.table machine.old.config.control))))) }
     ensures stays { OnOk result (StaysInMatch machine.old machine.new) }
@@ -286,7 +286,7 @@ pub(crate) fn most_points(sheet: &Sheet, sides: &Sides, player: u8) -> u8
 
 // What a player may have for another one: nothing for a mate.
 fn two_unless(mate: bool) -> u8
-    ensures is { result ≡ (if mate then 0 else 2) }
+    ensures points { result ≡ (if mate then 0 else 2) }
     ensures few { result ≤ 2 }
 {
     if mate { 0 } else { 2 }

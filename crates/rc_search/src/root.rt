@@ -104,7 +104,7 @@ pub(crate) fn gain_of<L: Ledger>(
     requires few { applied.old ≤ 18446744073709551615 }
     requires stands { IsAtRoot about.now way.now (view_seen view.now) machine.old }
     requires offered { item < menu_size about.now (view_seen view.now) }
-    ensures is { IfOk result (λ gain. gain ≡ gain_on about.now way.now (view_seen view.now) depth item) }
+    ensures gain { IfOk result (λ gain. gain ≡ gain_on about.now way.now (view_seen view.now) depth item) }
     ensures stays { OnOk result (StaysInMatch machine.old machine.new) }
     ensures rooms { OnOk result (AreOfShape about.now.shape rooms.new) }
     ensures exact { OnOk result (pruning ≡ false → steps.new
@@ -141,7 +141,7 @@ fn plain_gain<L: Ledger>(
     requires few { applied.old ≤ 18446744073709551615 }
     requires stands { IsAtRoot about.now way.now (view_seen view.now) machine.old }
     requires offered { item < menu_size about.now (view_seen view.now) }
-    ensures is { IfOk result (λ gain. gain ≡ gain_on about.now way.now (view_seen view.now) depth item) }
+    ensures gain { IfOk result (λ gain. gain ≡ gain_on about.now way.now (view_seen view.now) depth item) }
     ensures stays { OnOk result (StaysInMatch machine.old machine.new) }
     ensures rooms { OnOk result (AreOfShape about.now.shape rooms.new) }
     ensures exact { OnOk result (steps.new
@@ -175,7 +175,7 @@ fn pruned_gain<L: Ledger>(
     requires few { applied.old ≤ 18446744073709551615 }
     requires stands { IsAtRoot about.now way.now (view_seen view.now) machine.old }
     requires offered { item < menu_size about.now (view_seen view.now) }
-    ensures is { IfOk result (λ gain. gain ≡ gain_on about.now way.now (view_seen view.now) depth item) }
+    ensures gain { IfOk result (λ gain. gain ≡ gain_on about.now way.now (view_seen view.now) depth item) }
     ensures stays { OnOk result (StaysInMatch machine.old machine.new) }
     ensures rooms { OnOk result (AreOfShape about.now.shape rooms.new) }
     ensures bounded { OnOk result (steps.new

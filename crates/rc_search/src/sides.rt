@@ -89,7 +89,7 @@ fn points_known(
     requires score { score ≡ play.team_score (sheet_seen sheet.now) scores.now.items team }
     requires last { last.old.points ≡ play.points_against (sheet_seen sheet.now) scores.now.items team last.old.side }
     requires few { last.old.points ≤ 2 }
-    ensures is { result ≡ play.points_against (sheet_seen sheet.now) scores.now.items team other }
+    ensures points { result ≡ play.points_against (sheet_seen sheet.now) scores.now.items team other }
     ensures few { result ≤ 2 }
     ensures last { last.new.points ≡ play.points_against (sheet_seen sheet.now) scores.now.items team last.new.side }
     ensures small { last.new.points ≤ 2 }
@@ -115,7 +115,7 @@ fn points_against(
 ) -> u8
     requires sides { AreSides (sheet_seen sheet.now) sides.now.items }
     requires score { score ≡ play.team_score (sheet_seen sheet.now) scores.now.items team }
-    ensures is { result ≡ play.points_against (sheet_seen sheet.now) scores.now.items team other }
+    ensures points { result ≡ play.points_against (sheet_seen sheet.now) scores.now.items team other }
     ensures few { result ≤ 2 }
 {
     if team == other {

@@ -47,7 +47,7 @@ pub fn read_log(alloc: Global, shape: &Shape, bytes: &[u8]) -> Result<LogText, L
     requires short { length bytes.now ≤ 33554432 }
 
     // What is read is a log of the shape with the bytes as its text.
-    ensures is { IfOk result (λ text. IsLog shape.now (log_seen text)) }
+    ensures text { IfOk result (λ text. IsLog shape.now (log_seen text)) }
     ensures spelled { IfOk result (λ text. bytes.now ≡ text_of (log_seen text)) }
 
     // The bytes of any log of the shape are read as that one.

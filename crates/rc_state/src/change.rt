@@ -16,7 +16,7 @@ pub enum Change {
 /// The nearest number in range to what a number becomes.
 pub fn changed_number(how: Change, old: i64, value: i64) -> i64
     requires value { IsWithinClamp value }
-    ensures is { result ≡ clamped (new_by how old value) }
+    ensures value { result ≡ clamped (new_by how old value) }
     ensures within { IsWithinClamp result }
 {
     match how {

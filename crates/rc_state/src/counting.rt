@@ -35,7 +35,7 @@ fn zeros(count: u8) -> ArrayVec<u32, 8>
 /// How many members a stage of a class has: 1 to 8.
 #[inline(always)]
 pub fn member_count(about: &About, class: Class) -> u8
-    ensures is { result ≡ pure_owner_count about.now.sheet class }
+    ensures count { result ≡ pure_owner_count about.now.sheet class }
     ensures some { 1 ≤ result }
 {
     owner_count(about.sheet(), class) as u8

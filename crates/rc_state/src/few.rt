@@ -29,7 +29,7 @@ pub fn few_cards_now(
     requires stands { IsContextOf context.now table.now frames.now.items }
     requires well { in_scope context.now IsCollUnder (coll_seen expr.now) }
     requires empty { out.old.items ≡ [] }
-    ensures is { result ≡ true → values_seen out.new.items
+    ensures cards { result ≡ true → values_seen out.new.items
         ≡ coll_value (scene_in context.now table.now frames.now.items) context.now.scope.now (coll_seen expr.now) }
     ensures there { result ≡ true → All (λ card. IsCardOf context.now.about.now.shape (value_seen card)) out.new.items }
 {
@@ -84,7 +84,7 @@ pub fn sole_card_now(
 ) -> Option<Card>
     requires stands { IsContextOf context.now table.now frames.now.items }
     requires well { in_scope context.now IsCollUnder (coll_seen expr.now) }
-    ensures is { IfSome result (λ card. coll_value
+    ensures card { IfSome result (λ card. coll_value
         (scene_in context.now table.now frames.now.items) context.now.scope.now (coll_seen expr.now)
         ≡ value_seen card ∷ []) }
     ensures there { IfSome result (λ card. IsCardOf context.now.about.now.shape (value_seen card)) }

@@ -50,7 +50,7 @@ pub fn member_at(
     requires stands { IsContextOf context.now table.now frames.now.items }
     requires well { in_scope context.now IsDomainUnder (domain_seen domain.now) }
     requires empty { room.old.items ≡ [] }
-    ensures is { member_seen result (values_seen room.new.items)
+    ensures member { member_seen result (values_seen room.new.items)
         ≡ slice_index_or (members (scene_in context.now table.now frames.now.items) context.now.scope.now
         (domain_seen domain.now)) spot (player_bound 0) }
     ensures there { IsBindOf context.now.about.now.shape (member_seen result (values_seen room.new.items)) }
@@ -143,7 +143,7 @@ pub fn bare_bind_at<'m>(
 ) -> Option<Bind<'m>>
     requires stands { IsContextOf context.now table.now frames.now.items }
     requires well { in_scope context.now IsDomainUnder (domain_seen domain.now) }
-    ensures is { IfSome result (λ bind. bind_seen bind
+    ensures member { IfSome result (λ bind. bind_seen bind
         ≡ slice_index_or (members (scene_in context.now table.now frames.now.items) context.now.scope.now
         (domain_seen domain.now)) spot (player_bound 0)) }
     ensures there { IfSome result (λ bind. IsBindOf context.now.about.now.shape (bind_seen bind)) }

@@ -14,7 +14,7 @@ use rc_table::{Shape, Table, sees};
 /// those that don't see the location where it stands.
 pub fn joined_marks(table: &Table, id: u16, class: Class, owner: u8) -> u8
     requires card { id < length table.now.shape.faces }
-    ensures is { seats_in result ≡ joined table.now.shape (is_named_by table.now.shape class owner)
+    ensures marks { seats_in result ≡ joined table.now.shape (is_named_by table.now.shape class owner)
         (loc_of table.now.shape table.now.table id) (marks_of table.now.table.marks id) }
     ensures players { All (λ seat. seat < table.now.shape.players) (seats_in result) }
     ensures unseen { All (λ seat. sees_faces table.now.shape seat (loc_of table.now.shape table.now.table id) ≡ false)
@@ -57,7 +57,8 @@ fn joined_bits(table: &Table, id: u16, loc: u16, class: Class, owner: u8) -> u8
 fn bit(table: &Table, id: u16, loc: u16, class: Class, owner: u8, seat: u8) -> u8
     requires card { id < length table.now.shape.faces }
     requires seat { seat < 8 }
-    ensures is { result ≡ (if is_shown_to table.now.shape table.now.table.marks id loc class owner seat then 1 else 0) }
+    ensures bit { result
+        ≡ (if is_shown_to table.now.shape table.now.table.marks id loc class owner seat then 1 else 0) }
     ensures few { result ≤ 1 }
 {
     if is_shown(table, id, loc, class, owner, seat) {

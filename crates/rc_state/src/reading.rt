@@ -26,7 +26,7 @@ use rc_value::{
 pub fn card_now(context: &Context, expr: &CardExpr, table: &Table, frames: &Frames) -> Option<Card>
     requires stands { IsContextOf context.now table.now frames.now.items }
     requires well { in_scope context.now IsCardUnder (card_seen expr.now) }
-    ensures is { option_map value_seen result
+    ensures card { option_map value_seen result
         ≡ card_value (scene_in context.now table.now frames.now.items) context.now.scope.now (card_seen expr.now) }
     ensures there { IfSome result (λ card. IsCardOf context.now.about.now.shape (value_seen card)) }
 {
@@ -62,7 +62,7 @@ pub fn cards_now(
     requires stands { IsContextOf context.now table.now frames.now.items }
     requires well { in_scope context.now IsCollUnder (coll_seen expr.now) }
     requires empty { out.old.items ≡ [] }
-    ensures is { values_seen out.new.items
+    ensures cards { values_seen out.new.items
         ≡ coll_value (scene_in context.now table.now frames.now.items) context.now.scope.now (coll_seen expr.now) }
     ensures there { All (λ card. IsCardOf context.now.about.now.shape (value_seen card)) out.new.items }
 {
@@ -78,7 +78,7 @@ pub fn cards_now(
 pub fn int_now(context: &Context, expr: &IntExpr, table: &Table, frames: &Frames) -> i64
     requires stands { IsContextOf context.now table.now frames.now.items }
     requires well { in_scope context.now IsIntUnder (int_seen expr.now) }
-    ensures is { result ≡ int_value (scene_in context.now table.now frames.now.items) context.now.scope.now
+    ensures value { result ≡ int_value (scene_in context.now table.now frames.now.items) context.now.scope.now
         (int_seen expr.now) }
     ensures clamped { IsWithinClamp result }
 {
@@ -129,7 +129,7 @@ pub fn who_now(context: &Context, who: Who, table: &Table, frames: &Frames) -> u
 #[inline(always)]
 pub fn loc_now(context: &Context, loc: &Loc, table: &Table, frames: &Frames) -> Option<u16>
     requires stands { IsContextOf context.now table.now frames.now.items }
-    ensures is { result ≡ loc_place (scene_in context.now table.now frames.now.items).known context.now.scope.now
+    ensures location { result ≡ loc_place (scene_in context.now table.now frames.now.items).known context.now.scope.now
         (loc_seen loc.now) }
     ensures holds { IfSome result (λ at. HoldsAs context.now.about.now.shape
         (holds_references context.now.about.now.sheet loc.now.name) at) }

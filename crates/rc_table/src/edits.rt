@@ -178,7 +178,7 @@ fn put_in_order(list: &[u16], order: &[u16], room: &mut [u16]) -> usize
     requires fits { length list.now ≤ length room.old }
     requires order { IsPermutation (below (length list.now)) order.now }
     ensures count { result ≡ length list.now }
-    ensures is { take result room.new ≡ taken order.now list.now }
+    ensures cards { take result room.new ≡ taken order.now list.now }
 {
     for (at, place) in order.iter().enumerate() {
         room[at] = list[*place as usize];

@@ -18,7 +18,7 @@ fn are_equal(left: &[(u16, u16)], right: &[(u16, u16)]) -> bool
 
 // The place of the first of these faces that equals one, or how many there are.
 fn first_like(faces: &[Face], face: &Face) -> usize
-    ensures is { result ≡ position_or_len (face_eq face.now) faces.now }
+    ensures first { result ≡ position_or_len (face_eq face.now) faces.now }
     ensures within { result ≤ length faces.now }
 {
     for (place, other) in faces.iter().enumerate() {
@@ -62,7 +62,7 @@ pub fn have_same_face(shape: &Shape, left: u16, right: u16) -> bool
 /// The smallest id of a card with the same face.
 pub fn face_number(shape: &Shape, id: u16) -> u16
     requires { id < length shape.now.faces }
-    ensures is { result ≡ face_number_of shape.now id }
+    ensures number { result ≡ face_number_of shape.now id }
     ensures below { result ≤ id }
 {
     shape.face_numbers()[id as usize]

@@ -30,7 +30,7 @@ impl Table {
     /// The location that holds a card, and the card's place there.
     pub fn place_of(&self, id: u16) -> (u16, u16)
         requires { id < length self.now.shape.faces }
-        ensures is { result ≡ place_of self.now.shape self.now.table id }
+        ensures place { result ≡ place_of self.now.shape self.now.table id }
         ensures there { result.1 < length (list_at self.now.table result.0) }
         ensures stands { slice_get (list_at self.now.table result.0) result.1 ≡ Some id }
     {

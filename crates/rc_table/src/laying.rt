@@ -48,7 +48,7 @@ impl Table {
     pub fn refill(&mut self, locs: &[u16], ids: &[u16])
         requires enough { CanRefill locs.now ids.now self.old.table.lists }
         requires sound { IsSound self.old.shape (refilled locs.now ids.now self.old.table) }
-        ensures is { self.new ≡ relaid self.old (refilled locs.now ids.now self.old.table) }
+        ensures refilled { self.new ≡ relaid self.old (refilled locs.now ids.now self.old.table) }
         ensures others { DifferAtMostIn locs.now self.new.table self.old.table }
     {
         self.lists.refill(locs, ids);

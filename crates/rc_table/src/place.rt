@@ -23,7 +23,7 @@ pub struct Place {
 
 // One more, where a location holds references.
 fn mems_here(place: Place) -> u16
-    ensures is { result ≡ mems_here (place_seen place) }
+    ensures count { result ≡ mems_here (place_seen place) }
     ensures few { result ≤ 1 }
 {
     match place.kind {

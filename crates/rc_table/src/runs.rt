@@ -141,7 +141,7 @@ impl Table {
         requires loc { HoldsCards self.old.shape loc }
         ensures some { 0 < result }
         ensures count { result ≤ length ids.now }
-        ensures is { self.new ≡ relaid self.old
+        ensures put { self.new ≡ relaid self.old
             (put_each self.old.shape (end_of side) loc (take result ids.now) self.old.table) }
     {
         if ids.len() < MANY {

@@ -85,7 +85,7 @@ impl Shape {
 
     /// How many players there are.
     pub fn players(&self) -> u8
-        ensures is { result ≡ self.now.players }
+        ensures players { result ≡ self.now.players }
         ensures limits { IsShape self.now }
     {
         self.players

@@ -78,7 +78,7 @@ impl Table {
 
     /// The shape that the table is laid for.
     pub fn shape(&self) -> &Shape
-        ensures is { result.now ≡ self.now.shape }
+        ensures shape { result.now ≡ self.now.shape }
         ensures sound { IsSound self.now.shape self.now.table }
     {
         &self.shape
@@ -86,7 +86,7 @@ impl Table {
 
     /// The ids of a location from bottom to top; none where there is no such location.
     pub fn list(&self, loc: u16) -> &[u16]
-        ensures is { result.now ≡ list_at self.now.table loc }
+        ensures list { result.now ≡ list_at self.now.table loc }
         ensures few { length result.now ≤ most_in_list }
     {
         self.lists.list(loc)
@@ -94,7 +94,7 @@ impl Table {
 
     /// A number, or 0 where there is no such number.
     pub fn number(&self, num: u16) -> i64
-        ensures is { result ≡ number_at self.now.table num }
+        ensures number { result ≡ number_at self.now.table num }
         ensures clamped { IsWithinClamp result }
     {
         match self.numbers.get(num as usize) {

@@ -51,7 +51,7 @@ pub fn read_house(alloc: Global, bytes: &[u8]) -> Result<HouseText, TextFail>
     requires short { length bytes.now ≤ 33554432 }
 
     // What is read is a house text with the bytes as its text, and it has no more lines than bytes.
-    ensures is { IfOk result (λ text. IsHouseText (house_text_seen text)) }
+    ensures text { IfOk result (λ text. IsHouseText (house_text_seen text)) }
     ensures spelled { IfOk result (λ text. bytes.now ≡ text_of text) }
     ensures few { IfOk result (λ text. 1 + length (lines_of (house_text_seen text)) ≤ length bytes.now) }
 
@@ -91,7 +91,7 @@ fn without_marks(read: Result<NamedText, TextFail>) -> Result<HouseText, TextFai
 pub fn read_named(alloc: Global, legend: &[u8], bytes: &[u8]) -> Result<NamedText, TextFail>
     requires short { length bytes.now ≤ 33554432 }
     requires legend { (lines_in legend.now).1 ≡ [] }
-    ensures is { IfOk result (λ named. IsText true (named_seen named)) }
+    ensures text { IfOk result (λ named. IsText true (named_seen named)) }
     ensures fits { IfOk result Fits }
     ensures spelled { IfOk result (λ named.
         bytes.now ≡ text_in (naming (lines_in legend.now).0) (named_seen named)) }

@@ -19,7 +19,7 @@ use std::alloc::{AllocError, Global};
 pub fn bench_plan(alloc: Global, number: u16) -> Result<Plan, Memory>
     requires some { 1 ≤ number }
     requires few { number ≤ most_in_bench }
-    ensures is { IfOk result (λ plan. plan_seen plan ≡ bench_plan number) }
+    ensures plan { IfOk result (λ plan. plan_seen plan ≡ bench_plan number) }
     ensures within { IfOk result (λ plan. IsWithinLimits (plan_seen plan)) }
     ensures seats { IfOk result (λ plan. length (plan_seen plan).strategies ≡ 4) }
 {

@@ -172,7 +172,7 @@ fn play<C: Chooser, L: Ledger>(
     requires number { number < length plan.now.value.matches.items }
     requires seats { IsPlanFor about.now.value plan.now.value }
     ensures number { IfOk result (λ p. p.record.number ≡ number) }
-    ensures is { IfOk result (IsRecordIn noted about.now.value (plan_seen plan.now.value)) }
+    ensures record { IfOk result (IsRecordIn noted about.now.value (plan_seen plan.now.value)) }
     ensures rise { OnOk result (Rise (length (asks_of about.now.value (plan_seen plan.now.value) number))
         (C.counts chooser.old) (C.counts chooser.new)) }
     ensures same { (other : PureAbout) → C.serves chooser.old other → C.serves chooser.new other }

@@ -77,7 +77,7 @@ impl<'s> Collection<'s> {
     /// Their ids, where they stand in a location.
     #[inline(always)]
     pub fn ids(&self) -> Option<&[u16]>
-        ensures is { IfSome result (λ ids. ids.now ≡ map id_of self.now) }
+        ensures ids { IfSome result (λ ids. ids.now ≡ map id_of self.now) }
         ensures few { IfSome result (λ ids. length ids.now ≤ most_in_collection) }
     {
         match &self.source {
@@ -89,7 +89,7 @@ impl<'s> Collection<'s> {
     /// How many there are.
     #[inline(always)]
     pub fn len(&self) -> usize
-        ensures is { result ≡ length self.now }
+        ensures count { result ≡ length self.now }
         ensures few { result ≤ most_in_collection }
     {
         match &self.source {

@@ -119,7 +119,7 @@ fn join(scene: &Scene, scope: &Bindings, parts: &Vec<CollExpr>, out: &mut Cards)
 #[cycle(values)]
 fn add(scene: &Scene, scope: &Bindings, expr: &CollExpr, out: &mut Cards)
     requires fits { length scope.now + coll_depth (coll_seen expr.now) ≤ 5 }
-    ensures is { values_seen out.new.items
+    ensures cards { values_seen out.new.items
         ≡ cut (values_seen out.old.items ++ coll_value (scene_seen scene.now) scope.now (coll_seen expr.now)) }
     ensures few { length out.new.items ≤ most_in_collection }
 {
@@ -133,7 +133,7 @@ fn add(scene: &Scene, scope: &Bindings, expr: &CollExpr, out: &mut Cards)
 #[inline(never)]
 fn add_built(scene: &Scene, scope: &Bindings, expr: &CollExpr, out: &mut Cards)
     requires fits { length scope.now + coll_depth (coll_seen expr.now) ≤ 5 }
-    ensures is { values_seen out.new.items
+    ensures cards { values_seen out.new.items
         ≡ cut (values_seen out.old.items ++ coll_value (scene_seen scene.now) scope.now (coll_seen expr.now)) }
     ensures few { length out.new.items ≤ most_in_collection }
 {
@@ -332,7 +332,7 @@ fn arithmetic_value(scene: &Scene, scope: &Bindings, expr: &IntExpr) -> i64
 #[cycle(values)]
 fn count_of(scene: &Scene, scope: &Bindings, expr: &CollExpr) -> usize
     requires fits { length scope.now + coll_depth (coll_seen expr.now) ≤ 5 }
-    ensures is { result ≡ length (coll_value (scene_seen scene.now) scope.now (coll_seen expr.now)) }
+    ensures count { result ≡ length (coll_value (scene_seen scene.now) scope.now (coll_seen expr.now)) }
     ensures few { result ≤ most_in_collection }
 {
     match expr {
@@ -349,7 +349,7 @@ fn count_of(scene: &Scene, scope: &Bindings, expr: &CollExpr) -> usize
 #[inline(never)]
 fn count_filtered(scene: &Scene, scope: &Bindings, expr: &CollExpr) -> usize
     requires fits { length scope.now + coll_depth (coll_seen expr.now) ≤ 5 }
-    ensures is { result ≡ length (coll_value (scene_seen scene.now) scope.now (coll_seen expr.now)) }
+    ensures count { result ≡ length (coll_value (scene_seen scene.now) scope.now (coll_seen expr.now)) }
     ensures few { result ≤ most_in_collection }
 {
     match expr {
@@ -371,7 +371,7 @@ fn count_filtered(scene: &Scene, scope: &Bindings, expr: &CollExpr) -> usize
 #[inline(never)]
 fn count_built(scene: &Scene, scope: &Bindings, expr: &CollExpr) -> usize
     requires fits { length scope.now + coll_depth (coll_seen expr.now) ≤ 5 }
-    ensures is { result ≡ length (coll_value (scene_seen scene.now) scope.now (coll_seen expr.now)) }
+    ensures count { result ≡ length (coll_value (scene_seen scene.now) scope.now (coll_seen expr.now)) }
     ensures few { result ≤ most_in_collection }
 {
     let mut room = Cards::new();
@@ -383,7 +383,7 @@ fn count_built(scene: &Scene, scope: &Bindings, expr: &CollExpr) -> usize
 #[tactic(auto, using(crate::proofs::Steps::colls_here))]
 fn count_parts(scene: &Scene, scope: &Bindings, parts: &Vec<CollExpr>) -> usize
     requires fits { length scope.now + colls_depth (colls_seen parts.now.items) ≤ 5 }
-    ensures is { result ≡ length (cut (colls_value (scene_seen scene.now) scope.now (colls_seen parts.now.items))) }
+    ensures count { result ≡ length (cut (colls_value (scene_seen scene.now) scope.now (colls_seen parts.now.items))) }
     ensures few { result ≤ most_in_collection }
 {
     let mut count = 0;

@@ -38,7 +38,7 @@ pub fn value_at(values: &Values, place: usize) -> u16
 // Puts a value behind others, where it isn't among them.
 fn note(values: &mut Values, value: Option<u16>)
     requires { length values.old.items < most_in_collection }
-    ensures is { values.new.items ≡ noted_in values.old.items value }
+    ensures values { values.new.items ≡ noted_in values.old.items value }
     ensures few { length values.new.items ≤ length values.old.items + 1 }
 {
     if let Some(value) = value {
@@ -76,7 +76,7 @@ fn has_value(scene: &Scene, card: Card, name: u16, value: u16) -> bool
 // Puts a card behind others, where it passes.
 fn put(cards: &mut Cards, card: Card, passes: bool)
     requires room { length cards.old.items < most_in_collection }
-    ensures is { values_seen cards.new.items
+    ensures cards { values_seen cards.new.items
         ≡ (if passes then values_seen cards.old.items ++ value_seen card ∷ [] else values_seen cards.old.items) }
     ensures few { length cards.new.items ≤ length cards.old.items + 1 }
 {

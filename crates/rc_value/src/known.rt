@@ -64,7 +64,7 @@ fn has_mark(table: &Table, id: u16, seat: u8) -> bool
 // Puts the card with this id behind others, where it passes.
 fn add_if(out: &mut Cards, id: u16, passes: bool)
     requires room { length out.old.items < most_in_collection }
-    ensures is { values_seen out.new.items
+    ensures cards { values_seen out.new.items
         ≡ (if passes then values_seen out.old.items ++ held id ∷ [] else values_seen out.old.items) }
     ensures few { length out.new.items ≤ length out.old.items + 1 }
 {

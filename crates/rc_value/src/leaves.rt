@@ -22,7 +22,7 @@ use rc_table::{Shape, have_same_face};
 #[tactic(auto, unfolding(crate::specs::Scene::scene_seen))]
 #[inline(always)]
 pub fn worth_of(scene: &Scene, card: Card, map: u16) -> i64
-    ensures is { result ≡ worth (scene_seen scene.now) map (value_seen card) }
+    ensures worth { result ≡ worth (scene_seen scene.now) map (value_seen card) }
     ensures few { IsWithinClamp result }
 {
     match scene.lookup.worths(map) {

@@ -37,7 +37,7 @@ pub fn pick_from(scene: &Scene, cards: &Collection, pick: Which) -> Option<Card>
 
 /// Puts the cards of a collection behind others, as long as there is room.
 pub fn append(all: &mut Cards, more: &Collection)
-    ensures is { values_seen all.new.items ≡ cut (values_seen all.old.items ++ more.now) }
+    ensures cards { values_seen all.new.items ≡ cut (values_seen all.old.items ++ more.now) }
     ensures few { length all.new.items ≤ most_in_collection }
 {
     let room = MOST_IN_COLLECTION - all.len();
@@ -127,7 +127,7 @@ fn better(scene: &Scene, found: Card, other: Card, map: u16, largest: bool) -> C
 /// Writes a card at the end of those kept so far, where it passes, and says how many are kept then.
 pub fn keep(cards: &mut Cards, kept: usize, card: Card, passes: bool) -> usize
     requires room { kept < length cards.old.items }
-    ensures is { values_seen cards.new.items
+    ensures cards { values_seen cards.new.items
         ≡ (if passes then slice_set (values_seen cards.old.items) kept
         (value_seen card) else values_seen cards.old.items) }
     ensures count { result ≡ (if passes then kept + 1 else kept) }

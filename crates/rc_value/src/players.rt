@@ -160,7 +160,7 @@ fn does_hold(scene: &Scene, holding: Holding, player: u8) -> bool
 // How many cards a player has in his location of a name.
 #[inline(always)]
 fn size_of(scene: &Scene, name: u16, player: u8) -> usize
-    ensures is { result ≡ size_held (scene_seen scene.now) name player }
+    ensures count { result ≡ size_held (scene_seen scene.now) name player }
     ensures few { result ≤ most_in_list }
 {
     match scene.lookup.location(name, Class::Player, player) {

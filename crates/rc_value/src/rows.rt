@@ -20,7 +20,7 @@ use rc_table::Shape;
 #[tactic(auto, unfolding(crate::specs::Scene::scene_seen))]
 #[inline(always)]
 pub fn ids_of<'a>(scene: &'a Scene, scope: &Bindings, loc: &Loc) -> &'a [u16]
-    ensures is { result.now ≡ map id_of
+    ensures ids { result.now ≡ map id_of
         (cut (cards_there (scene_seen scene.now)
         (loc_place (scene_seen scene.now).known scope.now (loc_seen loc.now)))) }
     ensures few { length result.now ≤ most_in_list }

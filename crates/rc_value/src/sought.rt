@@ -112,7 +112,7 @@ fn some_like(scene: &Scene, likeness: Likeness, cards: &Collection) -> bool
 
 /// How many of the cards are so.
 pub(crate) fn count_as_sought(scene: &Scene, sought: Sought, cards: &Collection) -> usize
-    ensures is { result ≡ length (filter (sought_value (scene_seen scene.now) sought) cards.now) }
+    ensures count { result ≡ length (filter (sought_value (scene_seen scene.now) sought) cards.now) }
     ensures few { result ≤ most_in_list }
 {
     if let Sought::Value(wanted) = sought {
@@ -128,7 +128,7 @@ pub(crate) fn count_as_sought(scene: &Scene, sought: Sought, cards: &Collection)
 // The same, card by card.
 #[inline(never)]
 fn count_one_by_one(scene: &Scene, sought: Sought, cards: &Collection) -> usize
-    ensures is { result ≡ length (filter (sought_value (scene_seen scene.now) sought) cards.now) }
+    ensures count { result ≡ length (filter (sought_value (scene_seen scene.now) sought) cards.now) }
     ensures few { result ≤ most_in_list }
 {
     let mut count = 0;

@@ -144,7 +144,7 @@ pub fn some_one_by_one(scene: &Scene, wanted: WantedValue, cards: &Collection) -
 #[inline(always)]
 pub(crate) fn count_met_in(row: &[Option<u16>], wanted: WantedValue, ids: &[u16]) -> usize
     requires few { length ids.now ≤ most_in_collection }
-    ensures is { result ≡ length (filter (λ id. meets wanted (slice_index_or row.now id None)) ids.now) }
+    ensures count { result ≡ length (filter (λ id. meets wanted (slice_index_or row.now id None)) ids.now) }
     ensures few { result ≤ most_in_list }
 {
     let mut count = 0;

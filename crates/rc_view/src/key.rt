@@ -23,7 +23,7 @@ const NONE: u8 = 255;
 /// 512 cards, as in every view of a table. The bytes of a view of a match are fewer than 8,000. Memory may run out.
 pub fn key_bytes(alloc: Global, view: &View) -> Result<Vec<u8>, Memory>
     requires { HasKey (view_seen view.now) }
-    ensures is { IfOk result (λ bytes. bytes.items ≡ key_of (view_seen view.now)) }
+    ensures bytes { IfOk result (λ bytes. bytes.items ≡ key_of (view_seen view.now)) }
     ensures tells { KeysTellViews }
     ensures short { KeysAreShort }
 {

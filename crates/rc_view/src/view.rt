@@ -63,7 +63,7 @@ pub fn view_of(
 ) -> Result<View, Memory>
     requires laid { table.now.shape ≡ shape.now }
     requires seat { seat < shape.now.players }
-    ensures is { IfOk result (λ view. view_seen view
+    ensures view { IfOk result (λ view. view_seen view
         ≡ view_of_state shape.now seat table.now.table (control_seen control.now)) }
     ensures alike { EqualViewsAlike }
     ensures key { IfOk result (λ view. HasKey (view_seen view)) }

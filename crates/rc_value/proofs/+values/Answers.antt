@@ -59,7 +59,7 @@ expressions::join-loop-part-preserved t c =
       told =
           union_on (scene_seen c.args.scene.now) c.args.scope.now (values_seen c.loop-part.out.items) (values_seen c.add.new.out.items)
           c.deref-part-items.result.now c.loop-part.part-index c.part-item.result c.loop-part-test.true c.part-item.is
-          c.add.ensures.is c.loop-part.invariant.told;
+          c.add.ensures.cards c.loop-part.invariant.told;
     }
 
 pub expressions::join-returns : goal.expressions::join-returns
@@ -74,7 +74,7 @@ tests::all_cards_asked-loop-place-preserved t c =
     record {
       told =
           all_on (λ x. test_value (scene_seen c.args.scene.now) (c.args.scope.now ++ card_bound x ∷ []) (test_seen c.args.test.now))
-          c.args.cards.now c.loop-place.place (value_seen c.at.result) (omega (arith, c.len-place-end.ensures.is)) c.at.ensures
+          c.args.cards.now c.loop-place.place (value_seen c.at.result) (omega (arith, c.len-place-end.ensures.count)) c.at.ensures
           (inner_is (scene_seen c.args.scene.now) c.args.scope.now c.rebind.new.self (card_bound (value_seen c.at.result)) c.args.test.now c.test_of.result (c.rebind.ensures c.args.scope.now c.loop-place.invariant.inside.0 c.loop-place.invariant.inside.1) c.test_of.ensures ∙ c.if-not-test_of.false) c.loop-place.invariant.told;
       inside = (card_bound (value_seen c.at.result), (c.rebind.ensures c.args.scope.now c.loop-place.invariant.inside.0 c.loop-place.invariant.inside.1));
     }
@@ -82,13 +82,13 @@ tests::all_cards_asked-loop-place-preserved t c =
 pub tests::all_cards_asked-returns-then-not-test_of : goal.tests::all_cards_asked-returns-then-not-test_of
 tests::all_cards_asked-returns-then-not-test_of t c =
     all_stop (λ m. test_value (scene_seen c.args.scene.now) (c.args.scope.now ++ m ∷ []) (test_seen c.args.test.now)) (λ x. card_bound x)
-    c.args.cards.now c.loop-place.place (value_seen c.at.result) (omega (arith, c.len-place-end.ensures.is)) c.at.ensures
+    c.args.cards.now c.loop-place.place (value_seen c.at.result) (omega (arith, c.len-place-end.ensures.count)) c.at.ensures
     (inner_is (scene_seen c.args.scene.now) c.args.scope.now c.rebind.new.self (card_bound (value_seen c.at.result)) c.args.test.now c.test_of.result (c.rebind.ensures c.args.scope.now c.loop-place.invariant.inside.0 c.loop-place.invariant.inside.1) c.test_of.ensures ∙ c.if-not-test_of.true) c.loop-place.invariant.told
 
 pub tests::all_cards_asked-returns : goal.tests::all_cards_asked-returns
 tests::all_cards_asked-returns t c =
     all_end (λ m. test_value (scene_seen c.args.scene.now) (c.args.scope.now ++ m ∷ []) (test_seen c.args.test.now)) (λ x. card_bound x)
-    c.args.cards.now c.loop-place.place (omega (arith, c.len-place-end.ensures.is)) c.loop-place.invariant.told
+    c.args.cards.now c.loop-place.place (omega (arith, c.len-place-end.ensures.count)) c.loop-place.invariant.told
 
 pub tests::all_players_asked-loop-player-preserved : goal.tests::all_players_asked-loop-player-preserved
 tests::all_players_asked-loop-player-preserved t c =
@@ -121,7 +121,7 @@ tests::any_card_asked-loop-place-preserved t c =
     record {
       told =
           any_on (λ x. test_value (scene_seen c.args.scene.now) (c.args.scope.now ++ card_bound x ∷ []) (test_seen c.args.test.now))
-          c.args.cards.now c.loop-place.place (value_seen c.at.result) (omega (arith, c.len-place-end.ensures.is)) c.at.ensures
+          c.args.cards.now c.loop-place.place (value_seen c.at.result) (omega (arith, c.len-place-end.ensures.count)) c.at.ensures
           (inner_is (scene_seen c.args.scene.now) c.args.scope.now c.rebind.new.self (card_bound (value_seen c.at.result)) c.args.test.now c.test_of.result (c.rebind.ensures c.args.scope.now c.loop-place.invariant.inside.0 c.loop-place.invariant.inside.1) c.test_of.ensures ∙ c.if-test_of.false) c.loop-place.invariant.told;
       inside = (card_bound (value_seen c.at.result), (c.rebind.ensures c.args.scope.now c.loop-place.invariant.inside.0 c.loop-place.invariant.inside.1));
     }
@@ -129,13 +129,13 @@ tests::any_card_asked-loop-place-preserved t c =
 pub tests::any_card_asked-returns-then-test_of : goal.tests::any_card_asked-returns-then-test_of
 tests::any_card_asked-returns-then-test_of t c =
     any_stop (λ m. test_value (scene_seen c.args.scene.now) (c.args.scope.now ++ m ∷ []) (test_seen c.args.test.now)) (λ x. card_bound x)
-    c.args.cards.now c.loop-place.place (value_seen c.at.result) (omega (arith, c.len-place-end.ensures.is)) c.at.ensures
+    c.args.cards.now c.loop-place.place (value_seen c.at.result) (omega (arith, c.len-place-end.ensures.count)) c.at.ensures
     (inner_is (scene_seen c.args.scene.now) c.args.scope.now c.rebind.new.self (card_bound (value_seen c.at.result)) c.args.test.now c.test_of.result (c.rebind.ensures c.args.scope.now c.loop-place.invariant.inside.0 c.loop-place.invariant.inside.1) c.test_of.ensures ∙ c.if-test_of.true) c.loop-place.invariant.told
 
 pub tests::any_card_asked-returns : goal.tests::any_card_asked-returns
 tests::any_card_asked-returns t c =
     any_end (λ m. test_value (scene_seen c.args.scene.now) (c.args.scope.now ++ m ∷ []) (test_seen c.args.test.now)) (λ x. card_bound x)
-    c.args.cards.now c.loop-place.place (omega (arith, c.len-place-end.ensures.is)) c.loop-place.invariant.told
+    c.args.cards.now c.loop-place.place (omega (arith, c.len-place-end.ensures.count)) c.loop-place.invariant.told
 
 pub tests::any_player_asked-loop-player-preserved : goal.tests::any_player_asked-loop-player-preserved
 tests::any_player_asked-loop-player-preserved t c =
@@ -188,7 +188,7 @@ expressions::pass_asked-loop-place-preserved t c =
           c.loop-place.kept c.keep-kept.result c.loop-place.place (value_seen c.card_at-card.result) c.test_of-passes.result h
           (omega (arith, c.len-place-end.ensures.value)) c.card_at-card.ensures
           (inner_is (scene_seen c.args.scene.now) c.args.scope.now c.rebind.new.self (card_bound (value_seen c.card_at-card.result)) c.args.test.now c.test_of-passes.result (c.rebind.ensures c.args.scope.now c.loop-place.invariant.inside.0 c.loop-place.invariant.inside.1) c.test_of-passes.ensures)
-          c.keep-kept.ensures.is c.keep-kept.ensures.count;
+          c.keep-kept.ensures.cards c.keep-kept.ensures.count;
       inside = (card_bound (value_seen c.card_at-card.result), (c.rebind.ensures c.args.scope.now c.loop-place.invariant.inside.0 c.loop-place.invariant.inside.1));
     }
 
@@ -331,9 +331,9 @@ tests::over_cards-returns-in-Var-cards t c =
     ∙ ap (λ xs. list_any (λ m. test_value (scene_seen c.args.scene.now) (c.args.scope.now ++ m ∷ []) (test_seen c.in-Any.inner.value)) (map (λ k. card_bound k) xs)) c.group-in-Var-cards.ensures
     ∙ ap (test_value (scene_seen c.args.scene.now) c.args.scope.now) (sym e)
 
-pub expressions::count_of-returns-in-Union-clause-is : goal.expressions::count_of-returns-in-Union-clause-is
-expressions::count_of-returns-in-Union-clause-is t c =
-    c.count_parts.ensures.is
+pub expressions::count_of-returns-in-Union-clause-count : goal.expressions::count_of-returns-in-Union-clause-count
+expressions::count_of-returns-in-Union-clause-count t c =
+    c.count_parts.ensures.count
     ∙ ap (λ x. length (coll_value (scene_seen c.args.scene.now) c.args.scope.now x)) (sym (union_here c.args.expr.now c.in-Union.parts c.in-Union.is))
 
 pub expressions::count_of-count_parts-requires : goal.expressions::count_of-count_parts-requires
@@ -349,19 +349,19 @@ expressions::count_parts-loop-part-preserved t c =
       told =
           count_on (scene_seen c.args.scene.now) c.args.scope.now c.deref-part-items.result.now c.loop-part.part-index c.part-item.result
           c.loop-part.count c.count_of.result c.min-more.result _ c.loop-part-test.true c.part-item.is c.loop-part.invariant.few
-          c.count_of.ensures.is c.min-more.ensures c.loop-part.invariant.told;
+          c.count_of.ensures.count c.min-more.ensures c.loop-part.invariant.told;
     }
 
-pub expressions::count_parts-returns-clause-is : goal.expressions::count_parts-returns-clause-is
-expressions::count_parts-returns-clause-is t c =
+pub expressions::count_parts-returns-clause-count : goal.expressions::count_parts-returns-clause-count
+expressions::count_parts-returns-clause-count t c =
     count_end (scene_seen c.args.scene.now) c.args.scope.now c.deref-part-items.result.now c.loop-part.part-index c.loop-part.count
     c.loop-part-test.false c.loop-part.invariant.few c.loop-part.invariant.told
     ∙ ap (λ xs. length (cut (colls_value (scene_seen c.args.scene.now) c.args.scope.now (colls_seen xs)))) c.deref-part-items.ensures.value
 
-pub expressions::count_filtered-returns-in-Some-sought_of-clause-is : goal.expressions::count_filtered-returns-in-Some-sought_of-clause-is
-expressions::count_filtered-returns-in-Some-sought_of-clause-is t c =
+pub expressions::count_filtered-returns-in-Some-sought_of-clause-count : goal.expressions::count_filtered-returns-in-Some-sought_of-clause-count
+expressions::count_filtered-returns-in-Some-sought_of-clause-count t c =
     let told = c.deref-in-Some.result.now in
-    c.count_as_sought.ensures.is
+    c.count_as_sought.ensures.count
     ∙ ap length (kept_told (scene_seen c.args.scene.now) c.args.scope.now (test_seen told) (sought_value (scene_seen c.args.scene.now) c.in-Some-sought_of.sought) c.in-Some.all c.in-Some-sought_of.ensures)
     ∙ ap (λ xs. length (filter (λ x. test_value (scene_seen c.args.scene.now) (c.args.scope.now ++ card_bound x ∷ []) (test_seen told)) xs)) c.in-Some.ensures
     ∙ ap₂ (λ k u. length (coll_value (scene_seen c.args.scene.now) c.args.scope.now (filtered (coll_seen k) c.in-Filter.field-1 (test_seen u)))) c.deref.ensures c.deref-in-Some.ensures

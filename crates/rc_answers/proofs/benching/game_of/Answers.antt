@@ -6,8 +6,8 @@ use Rattle.rc_answers.proofs.AnswerLaws.{first_tree}
 use Rattle.rc_answers.proofs.BenchLaws.{no_first_fault}
 use Rattle.rc_answers.proofs.benching.game_of.Goals as goal
 
-pub returns-in-Ok-clause-is : goal.returns-in-Ok-clause-is
-returns-in-Ok-clause-is c =
+pub returns-in-Ok-clause-trick : goal.returns-in-Ok-clause-trick
+returns-in-Ok-clause-trick c =
     let forms = c.args.forms.now in
     let item : Some c.in-Some.form.now ≡ slice_get forms.list.items 0 = search rules in
     let first = first_tree forms.list.items c.in-Some.form.now item in
@@ -15,10 +15,10 @@ returns-in-Ok-clause-is c =
     (subst (λ trees. Spelled trick_text 1 trees forms.rest) first.1 c.requires.read) c.in-Ok.ensures.accepted.of_form
 
 pub returns-in-Ok-clause-one : goal.returns-in-Ok-clause-one
-returns-in-Ok-clause-one c = λ other game. c.the_trick_game_is_accepted.ensures.one _ other (returns-in-Ok-clause-is c) game
+returns-in-Ok-clause-one c = λ other game. c.the_trick_game_is_accepted.ensures.one _ other (returns-in-Ok-clause-trick c) game
 
 pub returns-in-Ok-clause-players : goal.returns-in-Ok-clause-players
-returns-in-Ok-clause-players c = c.the_trick_game_is_accepted.ensures.players _ (returns-in-Ok-clause-is c)
+returns-in-Ok-clause-players c = c.the_trick_game_is_accepted.ensures.players _ (returns-in-Ok-clause-trick c)
 
 pub unreachable-requires-in-Err-Fault : goal.unreachable-requires-in-Err-Fault
 unreachable-requires-in-Err-Fault c =

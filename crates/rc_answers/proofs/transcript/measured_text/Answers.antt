@@ -11,5 +11,5 @@ pub returns : goal.returns
 returns c =
     let plan = plan_seen c.args.plan.now in
     ap (λ bytes. text bytes [] 0)
-    (c.in_ok-text.ensures ∙ ap measures_text c.in_ok-measures.ensures.is
+    (c.in_ok-text.ensures ∙ ap measures_text c.in_ok-measures.ensures.measures
     ∙ ap (λ (matches : List MatchRecord). measures_text (measures_of plan (map record_seen matches))) c.deref.ensures.value)

@@ -6,8 +6,8 @@ use Rattle.rc_ast.specs.Items.{alt_seen}
 use Rattle.rc_asked.proofs.GuardLemmas.{guards}
 use Rattle.rc_asked.proofs.guards.guard_in.Goals as goal
 
-pub returns-in-If-clause-is : goal.returns-in-If-clause-is
-returns-in-If-clause-is c =
+pub returns-in-If-clause-meaning : goal.returns-in-If-clause-meaning
+returns-in-If-clause-meaning c =
     let effects = effects_seen c.in-If.field-1.items in
     guards c.args.loc (test_seen c.deref.result.now) effects (alt_seen c.args.alt.now)
     (ap alt_seen c.in-If.is ∙ ap (λ t. if_alt (test_seen t) effects) (sym c.deref.ensures))

@@ -21,7 +21,7 @@ loop-test-preserved c =
           ∙ one_part c.deref-test-items.result.now loop.test-index c.test-item.result (omega (arith, c.loop-test-test.true)) c.test-item.is c.in-Some.ensures.found;
       fixed = subst (All IsFixedPart) (sym c.push.ensures.items)
           (All-append IsFixedPart loop.parts.items (part ∷ []) loop.invariant.fixed
-          (All-cons IsFixedPart part [] c.in-Some.ensures.is.1 (All-nil IsFixedPart)));
+          (All-cons IsFixedPart part [] c.in-Some.ensures.meaning.1 (All-nil IsFixedPart)));
       many = let more = c.push.ensures.len in let many = loop.invariant.many in omega (arith, more, many);
     }
 

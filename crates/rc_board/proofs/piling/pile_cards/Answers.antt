@@ -9,4 +9,5 @@ put_top-requires-clause-card c =
     let laid = c.args.board.now.laid in
     sole_there laid.shape laid.table c.args.from c.in-Some.id
     (subst (λ (l : Laid). IsSound l.shape l.table) c.table.ensures c.shape-sound.ensures.sound)
-    (sym (ap (λ (l : Laid). list_at l.table c.args.from) c.table-2.ensures) ∙ sym c.list.ensures.is ∙ c.in-Some.ensures)
+    (sym (ap (λ (l : Laid). list_at l.table c.args.from) c.table-2.ensures) ∙ sym c.list.ensures.list
+    ∙ c.in-Some.ensures)

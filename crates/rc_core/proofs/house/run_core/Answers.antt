@@ -10,7 +10,7 @@ loop-event-preserved c =
     let events = c.args.events.now in
     let behind = map event_seen (drop (c.loop-event.event-index + 1) events) in
     let first = dropped event_seen events c.loop-event.event-index c.event-item.result c.loop-event-test.true c.event-item.is in
-    let is = c.in-Ok.ensures.is in
+    let is = c.in-Ok.ensures.after in
     record {
       plan = search rules;
       spent = λ m lane there gone. c.change.ensures.spent m lane (c.loop-event.invariant.spent m lane there gone) gone;

@@ -11,8 +11,8 @@ best_of-item-requires c =
     let wants = held_wants c.requires.wants.0 (phase_seen c.args.phase.now) (need_seen c.in-Holds.need) c.in-Holds.entry (ap phase_seen c.in-Holds.is) c.requires.wants.1 in
     asked_menu (need_seen c.in-Holds.need) c.in-Holds.entry wants.0 wants.1
 
-pub returns-in-Some-clause-is : goal.returns-in-Some-clause-is
-returns-in-Some-clause-is c =
+pub returns-in-Some-clause-after : goal.returns-in-Some-clause-after
+returns-in-Some-clause-after c =
     let xs = c.args.entries.now.items in
     let held : Some c.in-Some.entry ≡ Some c.in-Holds.entry = c.in-Some.ensures.entry (need_seen c.in-Holds.need) c.in-Holds.entry (ap phase_seen c.in-Holds.is) in
     let same : c.in-Some.entry ≡ c.in-Holds.entry = cc in

@@ -5,8 +5,8 @@ use Rattle.rc_match.specs.Lane.{phase_seen}
 use Rattle.rc_core.specs.Events.{found, looked_up}
 use Rattle.rc_core.proofs.sharing.look_up.Goals as goal
 
-pub returns-in-Ok-Some-clause-is : goal.returns-in-Ok-Some-clause-is
-returns-in-Ok-Some-clause-is c = λ capacity.
+pub returns-in-Ok-Some-clause-after : goal.returns-in-Ok-Some-clause-after
+returns-in-Ok-Some-clause-after c = λ capacity.
     let entries = c.args.entries.now.items in
     let need = need_seen c.in-Asks.need in
     let asking = ap phase_seen c.in-Asks.is in

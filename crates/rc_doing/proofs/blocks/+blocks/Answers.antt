@@ -191,7 +191,7 @@ for_each-returns-in-Some-gather_for_each-clause-does g t c =
     let place = loc_place (scene_at about laid.table (frames_seen frames)).known vars (loc_seen each.to.now) in
     on_ok _ _ c.gather_all.result c.gather_all.ensures.leads (λ leads.
     ap (λ domain. does_one about dealing vars (for_each (domain_seen domain) c.args.bound effects) now) c.in-Players.is
-    ∙ gather_each about dealing vars (loc_seen each.from.now) (loc_seen each.to.now) are.member are.apart effects (below about.sheet.players) now are.is
+    ∙ gather_each about dealing vars (loc_seen each.from.now) (loc_seen each.to.now) are.member are.apart effects (below about.sheet.players) now are.effect
     ∙ ap (λ shape. with_table now (if_some (λ to table. fold (gather_for about.sheet shape each.from.now.name to) table (map (λ n. player_bound n) (below about.sheet.players)))
     place laid.table)) (sym c.requires.stands.0)
     ∙ ap (λ (laid : Laid). point_of laid frames state) (sym leads))

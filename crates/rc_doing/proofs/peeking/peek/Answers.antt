@@ -18,4 +18,4 @@ returns-clause-leads c =
     on_ok _ _ c.show_all.result c.show_all.ensures.leads (λ shown.
     shown_leads context c.args.board.now.laid c.show_all.new.board.laid frames (coll_seen c.args.cards.now) (who_seen c.args.who)
     c.class_of.result c.who_now-owner.result (values_seen c.as_slice.result.now) c.requires.stands.0 c.class_of.ensures (c.who_now-owner.ensures ∙ owner)
-    (ap values_seen c.as_slice.ensures.value ∙ c.cards_now.ensures.is ∙ cards) shown)
+    (ap values_seen c.as_slice.ensures.value ∙ c.cards_now.ensures.cards ∙ cards) shown)

@@ -13,7 +13,7 @@ returns-in-Held-clause-leads c =
     let laid = c.args.board.now.laid in
     let named = is_named laid.shape c.args.class c.args.owner in
     let marks =
-    c.joined_marks-marks.ensures.is
+    c.joined_marks-marks.ensures.marks
     ∙ ap (λ (l : Laid). joined l.shape (is_named l.shape c.args.class c.args.owner) (loc_of l.shape l.table c.in-Held.id) (marks_of l.table.marks c.in-Held.id))
     c.table.ensures in
     on_ok _ _ c.set_marks.result c.set_marks.ensures.leads (λ marked.

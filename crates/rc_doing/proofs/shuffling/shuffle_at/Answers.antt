@@ -17,7 +17,7 @@ reorder-requires-clause-order g c =
     let same : c.as_slice.result.now ≡ c.shuffle.new.list = grind (arith, common_steps) in
     let h =
     shuffled order size c.as_mut_slice.result.now c.shuffle.new.list
-    (c.as_mut_slice.ensures.value ∙ c.places-order.ensures ∙ ap (λ list. below (length list)) (c.list.ensures.is ∙ ap (λ (laid : Laid). list_at laid.table c.args.at) c.table.ensures)) c.shuffle.ensures.order c.shuffle.ensures.taken in
+    (c.as_mut_slice.ensures.value ∙ c.places-order.ensures ∙ ap (λ list. below (length list)) (c.list.ensures.list ∙ ap (λ (laid : Laid). list_at laid.table c.args.at) c.table.ensures)) c.shuffle.ensures.order c.shuffle.ensures.taken in
     subst (IsPermutation (below size)) (sym same) h.1
 
 pub returns-in-Ok-clause-table : goal.returns-in-Ok-clause-table
@@ -28,20 +28,20 @@ returns-in-Ok-clause-table g c =
     let same : c.as_slice.result.now ≡ c.shuffle.new.list = grind (arith, common_steps) in
     let h =
     shuffled order size c.as_mut_slice.result.now c.shuffle.new.list
-    (c.as_mut_slice.ensures.value ∙ c.places-order.ensures ∙ ap (λ list. below (length list)) (c.list.ensures.is ∙ ap (λ (laid : Laid). list_at laid.table c.args.at) c.table.ensures)) c.shuffle.ensures.order c.shuffle.ensures.taken in
+    (c.as_mut_slice.ensures.value ∙ c.places-order.ensures ∙ ap (λ list. below (length list)) (c.list.ensures.list ∙ ap (λ (laid : Laid). list_at laid.table c.args.at) c.table.ensures)) c.shuffle.ensures.order c.shuffle.ensures.taken in
     ap (λ (k : Kept). k.laid) c.in-Ok.ensures.leads ∙ ap (λ ids. relaid table (reorder c.args.at ids table.table)) (same ∙ h.0)
 
 pub returns-in-Ok-clause-next : goal.returns-in-Ok-clause-next
 returns-in-Ok-clause-next g c =
     let size = length (list_at c.args.board.now.laid.table c.args.at) in
-    let places = c.as_mut_slice.ensures.value ∙ c.places-order.ensures ∙ ap (λ list. below (length list)) (c.list.ensures.is ∙ ap (λ (laid : Laid). list_at laid.table c.args.at) c.table.ensures) in
+    let places = c.as_mut_slice.ensures.value ∙ c.places-order.ensures ∙ ap (λ list. below (length list)) (c.list.ensures.list ∙ ap (λ (laid : Laid). list_at laid.table c.args.at) c.table.ensures) in
     c.shuffle.ensures.next
     ∙ ap ((g.D.Dealer.dealing c.args.dealer.now).next (g.D.Dealer.state c.args.dealer.now)) (ap length places ∙ length-range_with_len 0 size)
 
 pub returns-in-Err-clause-next : goal.returns-in-Err-clause-next
 returns-in-Err-clause-next g c =
     let size = length (list_at c.args.board.now.laid.table c.args.at) in
-    let places = c.as_mut_slice.ensures.value ∙ c.places-order.ensures ∙ ap (λ list. below (length list)) (c.list.ensures.is ∙ ap (λ (laid : Laid). list_at laid.table c.args.at) c.table.ensures) in
+    let places = c.as_mut_slice.ensures.value ∙ c.places-order.ensures ∙ ap (λ list. below (length list)) (c.list.ensures.list ∙ ap (λ (laid : Laid). list_at laid.table c.args.at) c.table.ensures) in
     c.shuffle.ensures.next
     ∙ ap ((g.D.Dealer.dealing c.args.dealer.now).next (g.D.Dealer.state c.args.dealer.now)) (ap length places ∙ length-range_with_len 0 size)
 

@@ -15,7 +15,7 @@ reorder-requires-clause-order g c =
     let same : c.as_slice.result.now ≡ c.shuffle.new.list = grind (arith, common_steps) in
     let h =
     shuffled order size c.as_mut_slice.result.now c.shuffle.new.list
-    (c.as_mut_slice.ensures.value ∙ c.places-order.ensures ∙ ap (λ list. below (length list)) c.list.ensures.is) c.shuffle.ensures.order c.shuffle.ensures.taken in
+    (c.as_mut_slice.ensures.value ∙ c.places-order.ensures ∙ ap (λ list. below (length list)) c.list.ensures.list) c.shuffle.ensures.order c.shuffle.ensures.taken in
     subst (IsPermutation (below size)) (sym same) h.1
 
 pub returns-clause-table : goal.returns-clause-table
@@ -26,12 +26,12 @@ returns-clause-table g c =
     let same : c.as_slice.result.now ≡ c.shuffle.new.list = grind (arith, common_steps) in
     let h =
     shuffled order size c.as_mut_slice.result.now c.shuffle.new.list
-    (c.as_mut_slice.ensures.value ∙ c.places-order.ensures ∙ ap (λ list. below (length list)) c.list.ensures.is) c.shuffle.ensures.order c.shuffle.ensures.taken in
+    (c.as_mut_slice.ensures.value ∙ c.places-order.ensures ∙ ap (λ list. below (length list)) c.list.ensures.list) c.shuffle.ensures.order c.shuffle.ensures.taken in
     c.reorder.ensures ∙ ap (λ ids. relaid table (reorder c.args.at ids table.table)) (same ∙ h.0)
 
 pub returns-clause-next : goal.returns-clause-next
 returns-clause-next g c =
     let size = length (list_at c.args.table.now.table c.args.at) in
-    let places = c.as_mut_slice.ensures.value ∙ c.places-order.ensures ∙ ap (λ list. below (length list)) c.list.ensures.is in
+    let places = c.as_mut_slice.ensures.value ∙ c.places-order.ensures ∙ ap (λ list. below (length list)) c.list.ensures.list in
     c.shuffle.ensures.next
     ∙ ap ((g.D.Dealer.dealing c.args.dealer.now).next (g.D.Dealer.state c.args.dealer.now)) (ap length places ∙ length-range_with_len 0 size)

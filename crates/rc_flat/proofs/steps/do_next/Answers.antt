@@ -20,7 +20,7 @@ returns-clause-leads g c =
     let k = g.D.Dealer.state c.args.dealer.now in
     let before = point_of c.args.state.now.board.laid c.args.state.now.control.frames.items k in
     let after = point_of c.do_block.new.board.laid c.do_block.new.frames.items (g.D.Dealer.state c.do_block.new.dealer) in
-    let inner = c.front-inner.ensures.is ∙ ap (λ code. take c.args.inside code) (c.past.ensures.is ∙ ap (λ n. drop (n + 1) m.code) c.next-next.ensures) in
+    let inner = c.front-inner.ensures.code ∙ ap (λ code. take c.args.inside code) (c.past.ensures.code ∙ ap (λ n. drop (n + 1) m.code) c.next-next.ensures) in
     do_leads m dealing k c.args.inside c.behind.result after c.requires.round c.requires.here
     (c.behind.ensures ∙ ap (λ n. drop (n + 1 + c.args.inside) m.code) c.next-next.ensures)
     (ap (λ code. does about dealing [] (effects_in code) before) (sym inner)

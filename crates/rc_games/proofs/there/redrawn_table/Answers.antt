@@ -10,4 +10,4 @@ returns-clause-decides c =
     let shape : c.shape.result.now.value ≡ need.about.shape = cc in
     can_decide need.about c.deref.result.now need.view c.key32-key.result c.shape.result.now.value c.in_ok-table.table
     c.menu_sizes_are_functions_of_views.ensures.redrawn own c.sheet-sheet.ensures.shape c.sheet-sheet.ensures.sight
-    c.requires.decision shape c.in_ok-table.ensures.is
+    c.requires.decision shape c.in_ok-table.ensures.table

@@ -59,7 +59,7 @@ returns-in_ok-answer-in-Playing-clause-answers g c =
     let game = c.in-Playing.game in
     let prepared : PreparesCommand c.args.command before after (Playing game) = rw c.in-Playing.is at c.in_ok-answer.ensures.prepared in
     let has = subst (λ (options : Options). HasLegend options.format game.checked c.in_ok-legend-in-Playing.legend.items) c.options.ensures
-    c.in_ok-legend-in-Playing.ensures.is in
+    c.in_ok-legend-in-Playing.ensures.legend in
     told before after c.args.command game 0 0 c.in_ok-series-in-Playing.series c.deref.result.now c.in_ok-answer-in-Playing.answer prepared
     c.in_ok-series-in-Playing.ensures
     (subst (HasLegend (options_of c.args.command).format game.checked) (sym c.deref.ensures.value) has) c.in_ok-answer-in-Playing.ensures

@@ -23,7 +23,7 @@ returns-in_err-bytes-clause-none g c =
     let after = port (g.S.Source.left c.read_all.new.source) (g.S.Source.faults c.read_all.new.source) in
     at_err (λ r. IfErr r (ReadsNone c.args.task before after)) c.from_residual.result c.from_residual.ensures.1
     (λ status is. subst (ReadsNone c.args.task before after) (sym is)
-    (unread_is c.args.task c.limit.result before after c.in_err-bytes.field-0.0 c.limit.ensures.is
+    (unread_is c.args.task c.limit.result before after c.in_err-bytes.field-0.0 c.limit.ensures.limit
     (λ same. c.in_err-bytes.ensures.cause (ap (λ fail. Err fail) same)) (λ other. c.in_err-bytes.ensures.steady (λ same. other cc)) c.in_err-bytes.ensures.lost))
 
 pub returns-in_err-prepared-clause-none : goal.returns-in_err-prepared-clause-none

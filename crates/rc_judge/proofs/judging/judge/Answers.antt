@@ -16,7 +16,7 @@ returns-clause-first c =
     let text = unmarked (house_text_seen c.args.text.now) in
     c.verdict_of.ensures (first_illegal about dealing_of plan 1 text)
     (subst (Finds c.text_along.result)
-    (c.one_pass_judges.ensures about dealing_of plan false 1 text (c.texts_are_of_lines.ensures.bare (house_text_seen c.args.text.now) c.requires.text)) c.text_along.ensures.is)
+    (c.one_pass_judges.ensures about dealing_of plan false 1 text (c.texts_are_of_lines.ensures.bare (house_text_seen c.args.text.now) c.requires.text)) c.text_along.ensures.verdict)
 
 pub returns-clause-legal : goal.returns-clause-legal
 returns-clause-legal c =
@@ -26,5 +26,5 @@ returns-clause-legal c =
     let is = c.texts_are_of_lines.ensures.bare (house_text_seen c.args.text.now) c.requires.text in
     legal_is c.verdict_of.result (first_illegal about dealing_of plan 1 text) (IsLegal about dealing_of plan (house_text_seen c.args.text.now))
     (c.verdict_of.ensures (first_illegal about dealing_of plan 1 text)
-    (subst (Finds c.text_along.result) (c.one_pass_judges.ensures about dealing_of plan false 1 text is) c.text_along.ensures.is))
+    (subst (Finds c.text_along.result) (c.one_pass_judges.ensures about dealing_of plan false 1 text is) c.text_along.ensures.verdict))
     (only_legal about plan text (c.legal_exactly.ensures about dealing_of plan false 1 text is))

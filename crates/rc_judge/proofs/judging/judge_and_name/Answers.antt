@@ -21,7 +21,7 @@ returns-clause-first c =
     let text = unmarked (house_text_seen c.args.text.now) in
     c.named_by.ensures.found (first_illegal about dealing_of plan 1 text)
     (subst (Finds c.text_along-judged.result)
-    (c.one_pass_judges.ensures about dealing_of plan false 1 text (c.texts_are_of_lines.ensures.bare (house_text_seen c.args.text.now) c.requires.text)) c.text_along-judged.ensures.is)
+    (c.one_pass_judges.ensures about dealing_of plan false 1 text (c.texts_are_of_lines.ensures.bare (house_text_seen c.args.text.now) c.requires.text)) c.text_along-judged.ensures.verdict)
 
 pub returns-clause-legal : goal.returns-clause-legal
 returns-clause-legal c =
@@ -31,7 +31,7 @@ returns-clause-legal c =
     let is = c.texts_are_of_lines.ensures.bare (house_text_seen c.args.text.now) c.requires.text in
     named_legal c.named_by.result (first_illegal about dealing_of plan 1 text) (IsLegal about dealing_of plan (house_text_seen c.args.text.now))
     (c.named_by.ensures.found (first_illegal about dealing_of plan 1 text)
-    (subst (Finds c.text_along-judged.result) (c.one_pass_judges.ensures about dealing_of plan false 1 text is) c.text_along-judged.ensures.is))
+    (subst (Finds c.text_along-judged.result) (c.one_pass_judges.ensures about dealing_of plan false 1 text is) c.text_along-judged.ensures.verdict))
     (only_legal about plan text (c.legal_exactly.ensures about dealing_of plan false 1 text is))
 
 pub returns-clause-marks : goal.returns-clause-marks

@@ -21,12 +21,12 @@ returns-clause-first c =
     let text = named_seen c.args.named.now in
     let head = 1 + length (legend_of about.sheet about.shape) in
     let lines : c.face_count-head.result ≡ length (legend_of about.sheet about.shape) =
-    c.face_count-head.ensures.is ∙ ap (λ s. length (face_numbers s)) (c.deref.ensures ∙ c.shape.ensures) ∙ sym (length-map (face_numbers about.shape) (face_line about.sheet about.shape)) in
+    c.face_count-head.ensures.count ∙ ap (λ s. length (face_numbers s)) (c.deref.ensures ∙ c.shape.ensures) ∙ sym (length-map (face_numbers about.shape) (face_line about.sheet about.shape)) in
     let marks = c.new-told.ensures ∙ ap (marks_left []) c.deref-2.ensures.value in
     c.verdict_of.ensures (first_illegal about dealing_of plan head text)
     (subst (Finds c.text_along.result)
     ((λ i. judged about dealing_of plan (1 + lines i) (record { text = house_text_seen c.args.named.now.text; marks = marks i }))
-    ∙ c.one_pass_judges.ensures about dealing_of plan true head text c.requires.text) c.text_along.ensures.is)
+    ∙ c.one_pass_judges.ensures about dealing_of plan true head text c.requires.text) c.text_along.ensures.verdict)
 
 pub returns-clause-legal : goal.returns-clause-legal
 returns-clause-legal c =
@@ -35,11 +35,11 @@ returns-clause-legal c =
     let text = named_seen c.args.named.now in
     let head = 1 + length (legend_of about.sheet about.shape) in
     let lines : c.face_count-head.result ≡ length (legend_of about.sheet about.shape) =
-    c.face_count-head.ensures.is ∙ ap (λ s. length (face_numbers s)) (c.deref.ensures ∙ c.shape.ensures) ∙ sym (length-map (face_numbers about.shape) (face_line about.sheet about.shape)) in
+    c.face_count-head.ensures.count ∙ ap (λ s. length (face_numbers s)) (c.deref.ensures ∙ c.shape.ensures) ∙ sym (length-map (face_numbers about.shape) (face_line about.sheet about.shape)) in
     let marks = c.new-told.ensures ∙ ap (marks_left []) c.deref-2.ensures.value in
     legal_is c.verdict_of.result (first_illegal about dealing_of plan head text) (IsLegalText about dealing_of plan true text)
     (c.verdict_of.ensures (first_illegal about dealing_of plan head text)
     (subst (Finds c.text_along.result)
     ((λ i. judged about dealing_of plan (1 + lines i) (record { text = house_text_seen c.args.named.now.text; marks = marks i }))
-    ∙ c.one_pass_judges.ensures about dealing_of plan true head text c.requires.text) c.text_along.ensures.is))
+    ∙ c.one_pass_judges.ensures about dealing_of plan true head text c.requires.text) c.text_along.ensures.verdict))
     (c.legal_exactly.ensures about dealing_of plan true head text c.requires.text)

@@ -42,8 +42,8 @@ loop-played-preserved g c =
       on =
           ap (λ marks. along.matches_along about dealing_of plan (m + 1) c.in_ok-line.line marks rest) c.in_ok-close.ensures.told
           ∙ sym (ap (along.matches_along about dealing_of plan m n told) parts
-          ∙ match_judged about plan m n c.in_ok-line.line told left (record_seen r) rest c.in_ok-line.ensures.is
-          (sym c.lacking_row.ensures.is ∙ ap row_seen c.in_ok-on_row.ensures.free))
+          ∙ match_judged about plan m n c.in_ok-line.line told left (record_seen r) rest c.in_ok-line.ensures.verdict
+          (sym c.lacking_row.ensures.row ∙ ap row_seen c.in_ok-on_row.ensures.free))
           ∙ c.loop-played.invariant.on;
       here = λ none. c.in_ok-close.ensures.here;
       noted = λ notes none.

@@ -12,8 +12,8 @@ use Rattle.rc_judge.specs.Seen.{marks_row, row_seen}
 use Rattle.rc_judge.proofs.Steps.{hands_on, marks_noted, marks_row_is, next_is, pick_halts, pick_leads, pick_noted}
 use Rattle.rc_judge.proofs.playing.picks_along.Goals as goal
 
-pub returns-in_err-on_row-2-clause-is : goal.returns-in_err-on_row-2-clause-is
-returns-in_err-on_row-2-clause-is g c = λ plan m deal.
+pub returns-in_err-on_row-2-clause-verdict : goal.returns-in_err-on_row-2-clause-verdict
+returns-in_err-on_row-2-clause-verdict g c = λ plan m deal.
     let about = g.M.Machine.about c.args.machine.now in
     let here = g.M.Machine.config c.loop-pick.machine in
     let picks = c.args.picks.now in
@@ -25,13 +25,13 @@ returns-in_err-on_row-2-clause-is g c = λ plan m deal.
     let same = c.loop-pick.invariant.same in
     let stands = subst (λ about. IsWhereItStops about (stop_seen c.loop-pick.stop) here) same c.loop-pick.invariant.stands in
     let stopped : decision_row about pick (stop_seen c.loop-pick.stop) here ≡ None =
-    ap (λ about. decision_row about pick (stop_seen c.loop-pick.stop) here) (sym same) ∙ sym c.stopped_row.ensures.is ∙ ap row_seen c.in_ok-on_row.ensures.free in
+    ap (λ about. decision_row about pick (stop_seen c.loop-pick.stop) here) (sym same) ∙ sym c.stopped_row.ensures.row ∙ ap row_seen c.in_ok-on_row.ensures.free in
     let row : row_seen c.in_ok-row.field-0 ≡ chosen_row about (Some at) pick (first_marks told) =
-    c.in_ok-row.ensures.is ∙ ap (λ about. marks_row (first_marks told) (bounds_here about pick.item here)) same ∙ sym (marks_row_is about at pick (first_marks told) stands stopped) in
+    c.in_ok-row.ensures.row ∙ ap (λ about. marks_row (first_marks told) (bounds_here about pick.item here)) same ∙ sym (marks_row_is about at pick (first_marks told) stands stopped) in
     let halt = c.in_err-on_row-2.field-0.0 in
     hands_on _ c.from_residual-in_err-on_row-2.result halt _ c.from_residual-in_err-on_row-2.ensures.1
     (pick_halts about plan m c.loop-pick.line at told picks i none halt (row_seen c.in_ok-row.field-0) _ c.loop-pick-test.true row
-    (c.loop-pick.invariant.on plan m deal) c.in_err-on_row-2.ensures.is)
+    (c.loop-pick.invariant.on plan m deal) c.in_err-on_row-2.ensures.verdict)
 
 pub loop-pick-preserved : goal.loop-pick-preserved
 loop-pick-preserved g c =
@@ -49,9 +49,9 @@ loop-pick-preserved g c =
     let same = c.loop-pick.invariant.same in
     let stands = subst (λ about. IsWhereItStops about (stop_seen c.loop-pick.stop) here) same c.loop-pick.invariant.stands in
     let stopped : decision_row about pick (stop_seen c.loop-pick.stop) here ≡ None =
-    ap (λ about. decision_row about pick (stop_seen c.loop-pick.stop) here) (sym same) ∙ sym c.stopped_row.ensures.is ∙ ap row_seen c.in_ok-on_row.ensures.free in
+    ap (λ about. decision_row about pick (stop_seen c.loop-pick.stop) here) (sym same) ∙ sym c.stopped_row.ensures.row ∙ ap row_seen c.in_ok-on_row.ensures.free in
     let row : row_seen c.in_ok-row.field-0 ≡ chosen_row about (Some at) pick (first_marks told) =
-    c.in_ok-row.ensures.is ∙ ap (λ about. marks_row (first_marks told) (bounds_here about pick.item here)) same ∙ sym (marks_row_is about at pick (first_marks told) stands stopped) in
+    c.in_ok-row.ensures.row ∙ ap (λ about. marks_row (first_marks told) (bounds_here about pick.item here)) same ∙ sym (marks_row_is about at pick (first_marks told) stands stopped) in
     let leads : (plan : Plan) (m : ℕ) → dealing_of (deal_at plan m).deal ≡ dealing_of c.args.dealer.now.deal → next_stop about dealing_of plan m (Some at) pick ≡ Some next =
     λ plan m deal. next_is about (g.M.Machine.about c.loop-pick.machine) plan m at next pick (dealing_of c.loop-pick.dealer.deal) same
     (c.loop-pick.invariant.dealing ∙ sym deal) stopped c.in_ok-stop.ensures.leads in

@@ -20,8 +20,8 @@ rank_points-points-requires g c =
           ∙ ap (λ a. a.sheet.players) c.requires.about ∙ ap (λ (s : Sheet). s.players) (sym c.sheet.ensures.same);
     }
 
-pub returns-in_err-on_row-clause-is : goal.returns-in_err-on_row-clause-is
-returns-in_err-on_row-clause-is g c = λ stop count.
+pub returns-in_err-on_row-clause-verdict : goal.returns-in_err-on_row-clause-verdict
+returns-in_err-on_row-clause-verdict g c = λ stop count.
     let about = c.args.about.now in
     let here = g.M.Machine.config c.args.machine.now in
     let at = Some (stopped_of stop here count) in
@@ -33,10 +33,10 @@ returns-in_err-on_row-clause-is g c = λ stop count.
     hands_on (λ n. n) c.from_residual.result halt _ c.from_residual.ensures.1
     (halts c.loop-score.line halt (row_seen c.scored_row.result) _
     (along.scores_along about (c.loop-score.line + 1) at (c.loop-score.index + 1) (map score_seen (drop (c.loop-score.score-index + 1) c.args.told.now))) _
-    (c.scored_row.ensures.is about here stop count scores ranked)
+    (c.scored_row.ensures.row about here stop count scores ranked)
     (sym (c.loop-score.invariant.on stop count)
     ∙ ap (along.scores_along about c.loop-score.line at c.loop-score.index) (dropped score_seen c.args.told.now c.loop-score.score-index _ c.loop-score-test.true))
-    c.in_err-on_row.ensures.is)
+    c.in_err-on_row.ensures.verdict)
 
 pub loop-score-preserved : goal.loop-score-preserved
 loop-score-preserved g c =
@@ -56,6 +56,7 @@ loop-score-preserved g c =
           sym (ap (along.scores_along about c.loop-score.line at c.loop-score.index) (dropped score_seen c.args.told.now c.loop-score.score-index _ c.loop-score-test.true)
           ∙ on_row_none c.loop-score.line _
           (along.scores_along about (c.loop-score.line + 1) at (c.loop-score.index + 1) (map score_seen (drop (c.loop-score.score-index + 1) c.args.told.now)))
-          (sym (c.scored_row.ensures.is about here stop count scores ranked) ∙ ap row_seen c.in_ok-on_row.ensures.free))
+          (sym (c.scored_row.ensures.row about here stop count scores ranked)
+          ∙ ap row_seen c.in_ok-on_row.ensures.free))
           ∙ c.loop-score.invariant.on stop count;
     }

@@ -17,4 +17,4 @@ note-requires-clause-offered g c =
     let item = c.in_ok-item-in-Decide.item in
     let asks = subst (λ stop. IsChoice (g.C.Chooser.serves c.args.chooser.now) (phase_at about plan m (stop_seen stop) here)) c.in-Decide.is c.requires.asks in
     subst (λ about. item < length (menu_here about here)) (sym c.requires.about)
-    (chosen_offered about plan m c.in-Decide.seat here item asks.1 c.in_ok-item-in-Decide.ensures.is)
+    (chosen_offered about plan m c.in-Decide.seat here item asks.1 c.in_ok-item-in-Decide.ensures.chosen)

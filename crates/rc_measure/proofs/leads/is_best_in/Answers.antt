@@ -10,7 +10,7 @@ use Rattle.rc_measure.proofs.leads.is_best_in.Goals as goal
 pub returns-then-points_in-most : goal.returns-then-points_in-most
 returns-then-points_in-most c =
     let points = λ (k : ℕ). points_in (plan_seen c.args.plan.now) k (record_seen c.args.played.now) in
-    let less : points c.args.strategy < points c.loop-other.other = omega (arith, c.if-points_in-most.true, c.points_in.ensures.is, c.points_in-most.ensures.is) in
+    let less : points c.args.strategy < points c.loop-other.other = omega (arith, c.if-points_in-most.true, c.points_in.ensures.points, c.points_in-most.ensures.points) in
     sym (fails_below (λ k. nat_le (points k) (points c.args.strategy)) (length (plan_seen c.args.plan.now).strategies) c.loop-other.other
     (omega (arith, c.loop-other-test.true, c.len-other-end.ensures, length-map c.args.plan.now.strategies.items strategy_seen))
     (lt-leb (points c.loop-other.other) (points c.args.strategy) less))
@@ -18,5 +18,5 @@ returns-then-points_in-most c =
 pub loop-other-preserved : goal.loop-other-preserved
 loop-other-preserved c =
     let points = λ (k : ℕ). points_in (plan_seen c.args.plan.now) k (record_seen c.args.played.now) in
-    let le : points c.loop-other.other ≤ points c.args.strategy = omega (arith, c.if-points_in-most.false, c.points_in.ensures.is, c.points_in-most.ensures.is) in
+    let le : points c.loop-other.other ≤ points c.args.strategy = omega (arith, c.if-points_in-most.false, c.points_in.ensures.points, c.points_in-most.ensures.points) in
     all_below_more (λ k. nat_le (points k) (points c.args.strategy)) c.loop-other.other c.loop-other.invariant (le-leb (points c.loop-other.other) (points c.args.strategy) le)

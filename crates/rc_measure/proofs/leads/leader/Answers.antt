@@ -8,14 +8,14 @@ use Rattle.rc_measure.proofs.leads.leader.Goals as goal
 pub returns-then-ahead-eq0 : goal.returns-then-ahead-eq0
 returns-then-ahead-eq0 c =
     let points = c.args.points.now in
-    let none : ahead points (get_or points c.loop-k.k 0) ≡ 0 = sym c.ahead.ensures.is ∙ c.if-ahead-eq0.true in
+    let none : ahead points (get_or points c.loop-k.k 0) ≡ 0 = sym c.ahead.ensures.count ∙ c.if-ahead-eq0.true in
     sym (position_or_len_is (λ most. ahead points most == 0) points c.loop-k.k 0 (omega (arith, c.loop-k-test.true)) c.loop-k.invariant
     (λ less. eq-eqb (ahead points (get_or points c.loop-k.k 0)) 0 none))
 
 pub loop-k-preserved : goal.loop-k-preserved
 loop-k-preserved c =
     let points = c.args.points.now in
-    below_more _ _ c.loop-k.invariant (ne_eqb (ahead points (get_or points c.loop-k.k 0)) 0 (λ e. c.if-ahead-eq0.false (c.ahead.ensures.is ∙ e)))
+    below_more _ _ c.loop-k.invariant (ne_eqb (ahead points (get_or points c.loop-k.k 0)) 0 (λ e. c.if-ahead-eq0.false (c.ahead.ensures.count ∙ e)))
 
 pub returns : goal.returns
 returns c =

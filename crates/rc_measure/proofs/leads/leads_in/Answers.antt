@@ -26,7 +26,7 @@ loop-i-preserved c =
     let next = c.in_ok-points-2.points.items in
     let same : length plan.strategies ≡ length c.args.plan.now.strategies.items = length-map c.args.plan.now.strategies.items strategy_seen in
     let each : (k : ℕ) → k < length plan.strategies → get_or next k 0 ≡ get_or c.loop-i.points.items k 0 + points_in plan k (record_seen (get_or ms i m)) =
-    λ k lt. c.in_ok-points-2.ensures.is k (omega (arith, lt, same))
+    λ k lt. c.in_ok-points-2.ensures.points k (omega (arith, lt, same))
     ∙ ap (λ (ps : List ℕ). get_or ps k 0 + points_in plan k (record_seen m)) c.deref.ensures.value
     ∙ ap (λ (r : MatchRecord). get_or c.loop-i.points.items k 0 + points_in plan k (record_seen r)) c.index-matches-i.is in
     let points : next ≡ points_of plan (map record_seen (take (i + 1) ms)) =

@@ -10,7 +10,7 @@ pub loop-k-preserved : goal.loop-k-preserved
 loop-k-preserved c =
     let inv = c.loop-k.invariant in
     let value = λ (j : ℕ). get_or c.args.points.now j 0 + points_in (plan_seen c.args.plan.now) j (record_seen c.args.played.now) in
-    let added : get_or c.args.points.now c.loop-k.k 0 + c.points_in.result ≡ value c.loop-k.k = ap (λ n. get_or c.args.points.now c.loop-k.k 0 + n) c.points_in.ensures.is in
+    let added : get_or c.args.points.now c.loop-k.k 0 + c.points_in.result ≡ value c.loop-k.k = ap (λ n. get_or c.args.points.now c.loop-k.k 0 + n) c.points_in.ensures.points in
     let items : c.push.new.self.items ≡ c.loop-k.next.items ++ (get_or c.args.points.now c.loop-k.k 0 + c.points_in.result) ∷ [] = c.in_ok-push.ensures.items in
     record {
       is = λ j less. ap (λ (ps : List ℕ). get_or ps j 0) items

@@ -16,5 +16,5 @@ loop-seat-preserved c =
     ∙ row_more items (seat_row records) c.loop-seat.rows.items seat c.in_ok-seat_row.field-0 c.loop-seat.invariant
     (c.in_ok-seat_row.ensures
     ∙ ap₂ (λ (t : Tally) (points : ℕ). numbers (seat ∷ t.choices ∷ t.forced ∷ t.menu ∷ points ∷ []))
-    (at_place c.tallies_by-tallies.result c.from-in-loop-seat.result seat _ _ c.from-in-loop-seat.ensures (c.tallies_by-tallies.ensures.is seat _ less))
-    (c.seat_points-points.ensures.is ∙ ap (seat_points records) c.from.ensures))
+    (at_place c.tallies_by-tallies.result c.from-in-loop-seat.result seat _ _ c.from-in-loop-seat.ensures (c.tallies_by-tallies.ensures.tallies seat _ less))
+    (c.seat_points-points.ensures.points ∙ ap (seat_points records) c.from.ensures))

@@ -13,7 +13,7 @@ loop-site-preserved c =
     let less : site < 64 = omega (arith, c.loop-site-test.true) in
     c.in_ok-add_site.ensures
     ∙ site_more records (map (λ row. row.items) c.loop-site.rows.items) site _
-    (at_place c.tallies_by-tallies.result c.from.result site _ _ c.from.ensures (c.tallies_by-tallies.ensures.is site _ less)) c.loop-site.invariant
+    (at_place c.tallies_by-tallies.result c.from.result site _ _ c.from.ensures (c.tallies_by-tallies.ensures.tallies site _ less)) c.loop-site.invariant
 
 pub returns : goal.returns
 unfolding sites_met

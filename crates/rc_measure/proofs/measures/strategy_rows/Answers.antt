@@ -18,4 +18,4 @@ loop-strategy-preserved c =
     ∙ row_more items (strategy_row plan records) c.loop-strategy.rows.items strategy c.in_ok-strategy_row.field-0 c.loop-strategy.invariant
     (c.in_ok-strategy_row.ensures
     ∙ ap (λ (t : Tally). numbers (strategy ∷ t.choices ∷ strategy_points plan records strategy ∷ strategy_best plan records strategy ∷ []))
-    (at_place c.tallies_by-tallies.result c.from.result strategy _ _ c.from.ensures (c.tallies_by-tallies.ensures.is strategy _ less)))
+    (at_place c.tallies_by-tallies.result c.from.result strategy _ _ c.from.ensures (c.tallies_by-tallies.ensures.tallies strategy _ less)))

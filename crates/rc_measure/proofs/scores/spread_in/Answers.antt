@@ -13,7 +13,7 @@ loop-played-preserved c =
     let i = c.loop-played.played-index in
     let m = c.played-item.result in
     let e : c.spread_of-sum.result ≡ spread_of (record_seen (get_or ms i m)) =
-    c.spread_of-sum.ensures.is ∙ ap (λ (scores : List Score). spread_of_scores (map (λ s. s.score) (map score_seen scores))) c.deref.ensures.value
+    c.spread_of-sum.ensures.spread ∙ ap (λ (scores : List Score). spread_of_scores (map (λ s. s.score) (map score_seen scores))) c.deref.ensures.value
     ∙ ap (λ (r : MatchRecord). spread_of (record_seen r)) c.played-item.is in
     let more : spread_in (map record_seen (take (i + 1) ms)) ≡ spread_in (map record_seen (take i ms)) +ℤ spread_of (record_seen (get_or ms i m)) =
     spread_more ms i m c.loop-played-test.true in

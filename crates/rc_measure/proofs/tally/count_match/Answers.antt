@@ -21,7 +21,7 @@ loop-pick-preserved c =
     let i = c.loop-pick.pick-index in
     record {
       is = ap (λ picks. counted plan c.args.by m (drop (i + 1) picks) c.count.new.tallies) (sym same)
-          ∙ counted_step plan c.args.by m picks i c.loop-pick.tallies c.count.new.tallies c.group_of.result _ c.loop-pick-test.true c.group_of.ensures c.count.ensures.is
+          ∙ counted_step plan c.args.by m picks i c.loop-pick.tallies c.count.new.tallies c.group_of.result _ c.loop-pick-test.true c.group_of.ensures c.count.ensures.tallies
           ∙ ap (λ picks. counted plan c.args.by m (drop i picks) c.loop-pick.tallies) same ∙ c.loop-pick.invariant.is;
       small = λ n all. all_at_most (n + i + 1) (n + (i + 1)) c.count.new.tallies (omega arith) (c.count.ensures.small (n + i) (c.loop-pick.invariant.small n all));
     }

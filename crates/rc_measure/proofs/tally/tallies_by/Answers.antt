@@ -16,15 +16,15 @@ loop-played-preserved c =
     let r = c.played-item.result in
     let few = c.requires.few i r c.loop-played-test.true in
     record {
-      is = counted_match plan c.args.by ms i c.loop-played.tallies c.count_match.new.tallies r c.loop-played-test.true c.played-item.is c.count_match.ensures.is
+      is = counted_match plan c.args.by ms i c.loop-played.tallies c.count_match.new.tallies r c.loop-played-test.true c.played-item.is c.count_match.ensures.tallies
           ∙ c.loop-played.invariant.is;
       small = all_at_most (33554432 * i + length r.picks.items) (33554432 * (i + 1)) c.count_match.new.tallies
           (omega (arith, few, ap (λ (r : MatchRecord). length r.picks.items) c.played-item.is))
           (c.count_match.ensures.small (33554432 * i) c.loop-played.invariant.small);
     }
 
-pub returns-clause-is : goal.returns-clause-is
-returns-clause-is c =
+pub returns-clause-tallies : goal.returns-clause-tallies
+returns-clause-tallies c =
     let plan = plan_seen c.args.plan.now in
     let ms = c.args.matches.now in
     let past : drop c.loop-played.played-index ms ≡ [] = drop_all c.loop-played.played-index ms (omega (arith, c.loop-played-test.false)) in

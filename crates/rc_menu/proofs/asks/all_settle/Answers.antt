@@ -16,17 +16,17 @@ loop-test-preserved c =
       fit = c.settles.ensures.fit;
       told =
           settle_on (scene_seen c.args.scene.now) c.args.scope.now c.deref-test-items.result.now c.args.any c.loop-test.test-index c.test-item.result c.settles.result c.loop-test.asks.items c.settles.new.asks.items
-          c.loop-test-test.true c.test-item.is c.settles.ensures.is c.loop-test.invariant.told c.if-settles.false;
+          c.loop-test-test.true c.test-item.is c.settles.ensures.joined c.loop-test.invariant.told c.if-settles.false;
     }
 
-pub returns-then-settles-clause-is : goal.returns-then-settles-clause-is
-returns-then-settles-clause-is c = λ x.
+pub returns-then-settles-clause-joined : goal.returns-then-settles-clause-joined
+returns-then-settles-clause-joined c = λ x.
     ap (λ ts. joined c.args.any (tests_value (scene_seen c.args.scene.now) (c.args.scope.now ++ card_bound x ∷ []) (tests_seen ts))) (sym c.deref-test-items.ensures.value)
     ∙ settle_stop (scene_seen c.args.scene.now) c.args.scope.now c.deref-test-items.result.now c.args.any c.loop-test.test-index c.test-item.result c.settles.result c.loop-test.asks.items c.settles.new.asks.items
-    c.loop-test-test.true c.test-item.is c.settles.ensures.is c.loop-test.invariant.told c.if-settles.true x
+    c.loop-test-test.true c.test-item.is c.settles.ensures.joined c.loop-test.invariant.told c.if-settles.true x
 
-pub returns-clause-is : goal.returns-clause-is
-returns-clause-is c = λ x.
+pub returns-clause-joined : goal.returns-clause-joined
+returns-clause-joined c = λ x.
     ap (λ ts. joined c.args.any (tests_value (scene_seen c.args.scene.now) (c.args.scope.now ++ card_bound x ∷ []) (tests_seen ts))) (sym c.deref-test-items.ensures.value)
     ∙ settle_end (scene_seen c.args.scene.now) c.args.scope.now c.deref-test-items.result.now c.args.any c.loop-test.test-index c.loop-test.asks.items
     c.loop-test-test.false c.loop-test.invariant.told x

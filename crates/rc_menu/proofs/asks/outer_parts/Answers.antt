@@ -12,10 +12,10 @@ pub all_settle-requires-then-len-le4-2-clause-deep : goal.all_settle-requires-th
 all_settle-requires-then-len-le4-2-clause-deep c =
     let e = and_depth c.args.guard.now c.in-And.tests c.in-And.is in omega (arith, c.requires.deep)
 
-pub returns-then-len-le4-clause-is : goal.returns-then-len-le4-clause-is
-returns-then-len-le4-clause-is c = λ x.
-    ap (λ t. told_of (scene_seen c.args.scene.now) c.args.scope.now t x) (or_here c.args.guard.now c.in-Or.tests c.in-Or.is) ∙ c.all_settle.ensures.is x
+pub returns-then-len-le4-clause-parts : goal.returns-then-len-le4-clause-parts
+returns-then-len-le4-clause-parts c = λ x.
+    ap (λ t. told_of (scene_seen c.args.scene.now) c.args.scope.now t x) (or_here c.args.guard.now c.in-Or.tests c.in-Or.is) ∙ c.all_settle.ensures.joined x
 
-pub returns-then-len-le4-2-clause-is : goal.returns-then-len-le4-2-clause-is
-returns-then-len-le4-2-clause-is c = λ x.
-    ap (λ t. told_of (scene_seen c.args.scene.now) c.args.scope.now t x) (and_here c.args.guard.now c.in-And.tests c.in-And.is) ∙ c.all_settle-then-len-le4-2.ensures.is x
+pub returns-then-len-le4-2-clause-parts : goal.returns-then-len-le4-2-clause-parts
+returns-then-len-le4-2-clause-parts c = λ x.
+    ap (λ t. told_of (scene_seen c.args.scene.now) c.args.scope.now t x) (and_here c.args.guard.now c.in-And.tests c.in-And.is) ∙ c.all_settle-then-len-le4-2.ensures.joined x

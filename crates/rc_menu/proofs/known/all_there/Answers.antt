@@ -10,4 +10,4 @@ pub returns-in-Some : goal.returns-in-Some
 returns-in-Some c =
     c.all_met_in.ensures
     ∙ all_met c.args.scene.now c.args.wanted c.in-Some.row.now c.ids_of.result.now (coll_value (scene_seen c.args.scene.now) c.args.scope.now (cards_in (loc_seen c.args.loc.now)))
-    c.in-Some.ensures c.ids_of.ensures.is
+    c.in-Some.ensures c.ids_of.ensures.ids

@@ -32,7 +32,7 @@ offer_each-loop-place-preserved t c =
       told =
           offered (λ m. spots_of (scene_seen c.args.scene.now) (c.args.scope.now ++ m ∷ []) (alt_seen c.args.inner.now)) (item_seen c.args.item.now) (item_seen c.with_spot.result) (menu_seen c.loop-place.menu.items) (menu_seen c.offer.new.menu.items)
           (take 256 (menu_seen c.args.menu.now.items ++ map (extended (item_seen c.args.item.now)) (from_each (λ m. spots_of (scene_seen c.args.scene.now) (c.args.scope.now ++ m ∷ []) (alt_seen c.args.inner.now)) 0 (map (λ x. card_bound x) c.args.cards.now))))
-          (map (λ x. card_bound x) c.args.cards.now) c.loop-place.place (card_bound (value_seen c.at.result)) (omega (arith, c.len-place-end.ensures.is)) (map_here (λ x. card_bound x) c.args.cards.now c.loop-place.place (value_seen c.at.result) (omega (arith, c.len-place-end.ensures.is)) c.at.ensures) c.with_spot.ensures grown c.loop-place.invariant.told;
+          (map (λ x. card_bound x) c.args.cards.now) c.loop-place.place (card_bound (value_seen c.at.result)) (omega (arith, c.len-place-end.ensures.count)) (map_here (λ x. card_bound x) c.args.cards.now c.loop-place.place (value_seen c.at.result) (omega (arith, c.len-place-end.ensures.count)) c.at.ensures) c.with_spot.ensures grown c.loop-place.invariant.told;
     }
 
 pub offer_each-returns-then-is_filled : goal.offer_each-returns-then-is_filled
@@ -146,7 +146,7 @@ pub offer_cards-returns-in-Do : goal.offer_cards-returns-in-Do
 offer_cards-returns-in-Do t c =
     c.offer_count.ensures
     ∙ ap (λ ps. take 256 (menu_seen c.args.menu.now.items ++ map (extended (item_seen c.args.item.now)) ps))
-    (counted_each c.len.result c.args.cards.now c.len.ensures.is
+    (counted_each c.len.result c.args.cards.now c.len.ensures.count
     ∙ offered_do (scene_seen c.args.scene.now) c.args.scope.now (alt_seen c.args.inner.now) _ c.args.cards.now (ap alt_seen c.in-Do.is))
 
 pub offer_cards-returns-in-If : goal.offer_cards-returns-in-If
@@ -179,7 +179,7 @@ offer_parts-returns-then-passes t c =
     let groups = groups_by (scene_seen c.args.scene.now) c.args.name (coll_value (scene_seen c.args.scene.now) c.args.scope.now (coll_seen c.args.cards.now)) in
     c.offer_count.ensures
     ∙ ap (λ ps. take 256 (menu_seen c.args.menu.now.items ++ map (extended (item_seen c.args.item.now)) ps))
-    (counted_each c.groups_of.result (map {B = PureBind CardValue} (λ x. group_bound x) groups) (c.groups_of.ensures.is ∙ sym (length-map {B = PureBind CardValue} groups (λ x. group_bound x)))
+    (counted_each c.groups_of.result (map {B = PureBind CardValue} (λ x. group_bound x) groups) (c.groups_of.ensures.count ∙ sym (length-map {B = PureBind CardValue} groups (λ x. group_bound x)))
     ∙ alike_each g c.in-Some.passes (map (λ x. group_bound x) groups) c.in-Some.ensures c.if-passes.true)
 
 pub offer_parts-returns-else-passes : goal.offer_parts-returns-else-passes

@@ -11,8 +11,8 @@ pub offer_all-requires-clause-few : goal.offer_all-requires-clause-few
 unfolding scene_seen
 offer_all-requires-clause-few c = subst (All (BindsFew 0)) (sym c.requires.site) (c.args.scene.now.readable.choices c.args.site)
 
-pub returns-clause-is : goal.returns-clause-is
-returns-clause-is c = c.offer_all.ensures ∙ ap (pure_menu_from (scene_seen c.args.scene.now)) c.requires.site
+pub returns-clause-menu : goal.returns-clause-menu
+returns-clause-menu c = c.offer_all.ensures ∙ ap (pure_menu_from (scene_seen c.args.scene.now)) c.requires.site
 
 pub returns-clause-alike : goal.returns-clause-alike
 unfolding scene_seen

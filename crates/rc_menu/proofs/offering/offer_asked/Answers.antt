@@ -14,9 +14,9 @@ loop-place-preserved c = record {
   free = c.put_at_if.ensures.free c.if-put_at_if.false;
   told =
       offered (λ x. cond (joined c.args.any (map (ask_value (scene_seen c.args.scene.now) c.args.scope.now x) c.args.asks.now)) ([] ∷ []) []) (item_seen c.args.item.now) (extended (item_seen c.args.item.now) (c.loop-place.place ∷ [])) (menu_seen c.loop-place.menu.items) (menu_seen c.put_at_if.new.menu.items) _
-      c.args.cards.now c.loop-place.place (value_seen c.at.result) (omega (arith, c.len-place-end.ensures.is))
+      c.args.cards.now c.loop-place.place (value_seen c.at.result) (omega (arith, c.len-place-end.ensures.count))
       c.at.ensures refl
-      (grown_if (menu_seen c.loop-place.menu.items) (menu_seen c.put_at_if.new.menu.items) (extended (item_seen c.args.item.now) (c.loop-place.place ∷ [])) c.joined_answer-passes.result _ c.joined_answer-passes.ensures c.put_at_if.ensures.is)
+      (grown_if (menu_seen c.loop-place.menu.items) (menu_seen c.put_at_if.new.menu.items) (extended (item_seen c.args.item.now) (c.loop-place.place ∷ [])) c.joined_answer-passes.result _ c.joined_answer-passes.ensures c.put_at_if.ensures.menu)
       c.loop-place.invariant.told;
 }
 
@@ -24,13 +24,14 @@ pub returns-then-put_at_if : goal.returns-then-put_at_if
 returns-then-put_at_if c =
     offered_full (menu_seen c.put_at_if.new.menu.items) _ _ (length-map c.put_at_if.new.menu.items item_seen ∙ c.put_at_if.ensures.full c.if-put_at_if.true)
     (offered (λ x. cond (joined c.args.any (map (ask_value (scene_seen c.args.scene.now) c.args.scope.now x) c.args.asks.now)) ([] ∷ []) []) (item_seen c.args.item.now) (extended (item_seen c.args.item.now) (c.loop-place.place ∷ [])) (menu_seen c.loop-place.menu.items) (menu_seen c.put_at_if.new.menu.items) _
-    c.args.cards.now c.loop-place.place (value_seen c.at.result) (omega (arith, c.len-place-end.ensures.is))
+    c.args.cards.now c.loop-place.place (value_seen c.at.result) (omega (arith, c.len-place-end.ensures.count))
     c.at.ensures refl
-    (grown_if (menu_seen c.loop-place.menu.items) (menu_seen c.put_at_if.new.menu.items) (extended (item_seen c.args.item.now) (c.loop-place.place ∷ [])) c.joined_answer-passes.result _ c.joined_answer-passes.ensures c.put_at_if.ensures.is)
+    (grown_if (menu_seen c.loop-place.menu.items) (menu_seen c.put_at_if.new.menu.items) (extended (item_seen c.args.item.now) (c.loop-place.place ∷ [])) c.joined_answer-passes.result _ c.joined_answer-passes.ensures c.put_at_if.ensures.menu)
     c.loop-place.invariant.told)
 
 pub returns : goal.returns
 returns c =
     let count = length-map c.loop-place.menu.items item_seen in
     offered_all (λ x. cond (joined c.args.any (map (ask_value (scene_seen c.args.scene.now) c.args.scope.now x) c.args.asks.now)) ([] ∷ []) []) (item_seen c.args.item.now) (menu_seen c.loop-place.menu.items) _ c.args.cards.now c.loop-place.place
-    (omega (arith, c.len-place-end.ensures.is)) (omega (arith, c.loop-place.invariant.free)) c.loop-place.invariant.told
+    (omega (arith, c.len-place-end.ensures.count))
+    (omega (arith, c.loop-place.invariant.free)) c.loop-place.invariant.told

@@ -16,7 +16,7 @@ loop-place-preserved c =
       told =
           offered (λ n. [] ∷ []) (item_seen c.args.item.now) (extended (item_seen c.args.item.now) (c.loop-place.place ∷ [])) (menu_seen c.loop-place.menu.items) (menu_seen c.put_at.new.menu.items) _
           (below c.args.count) c.loop-place.place (get_or (below c.args.count) c.loop-place.place 0) (omega (arith, c.loop-place-test.true))
-          (here_is (below c.args.count) c.loop-place.place 0 (omega (arith, c.loop-place-test.true))) refl c.put_at.ensures.is c.loop-place.invariant.told;
+          (here_is (below c.args.count) c.loop-place.place 0 (omega (arith, c.loop-place-test.true))) refl c.put_at.ensures.menu c.loop-place.invariant.told;
     }
 
 pub returns-then-put_at : goal.returns-then-put_at
@@ -25,7 +25,7 @@ returns-then-put_at c =
     offered_full (menu_seen c.put_at.new.menu.items) _ _ (length-map c.put_at.new.menu.items item_seen ∙ c.put_at.ensures.full c.if-put_at.true)
     (offered (λ n. [] ∷ []) (item_seen c.args.item.now) (extended (item_seen c.args.item.now) (c.loop-place.place ∷ [])) (menu_seen c.loop-place.menu.items) (menu_seen c.put_at.new.menu.items) _
     (below c.args.count) c.loop-place.place (get_or (below c.args.count) c.loop-place.place 0) (omega (arith, c.loop-place-test.true))
-    (here_is (below c.args.count) c.loop-place.place 0 (omega (arith, c.loop-place-test.true))) refl c.put_at.ensures.is c.loop-place.invariant.told)
+    (here_is (below c.args.count) c.loop-place.place 0 (omega (arith, c.loop-place-test.true))) refl c.put_at.ensures.menu c.loop-place.invariant.told)
 
 pub returns : goal.returns
 returns c =

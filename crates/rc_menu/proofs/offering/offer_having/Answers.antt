@@ -15,7 +15,7 @@ loop-place-preserved c = record {
   told =
       offered (λ id. cond (both nat_same (slice_index_or c.args.row.now id None) (Some c.args.value)) ([] ∷ []) []) (item_seen c.args.item.now) (extended (item_seen c.args.item.now) (c.loop-place.place ∷ [])) (menu_seen c.loop-place.menu.items) (menu_seen c.put_at_if.new.menu.items) _
       c.args.ids.now c.loop-place.place (get_or c.args.ids.now c.loop-place.place 0) c.loop-place-test.true (here_is c.args.ids.now c.loop-place.place 0 c.loop-place-test.true) refl
-      (grown_if (menu_seen c.loop-place.menu.items) (menu_seen c.put_at_if.new.menu.items) (extended (item_seen c.args.item.now) (c.loop-place.place ∷ [])) c.has_value-passes.result _ c.has_value-passes.ensures c.put_at_if.ensures.is)
+      (grown_if (menu_seen c.loop-place.menu.items) (menu_seen c.put_at_if.new.menu.items) (extended (item_seen c.args.item.now) (c.loop-place.place ∷ [])) c.has_value-passes.result _ c.has_value-passes.ensures c.put_at_if.ensures.menu)
       c.loop-place.invariant.told;
 }
 
@@ -24,7 +24,7 @@ returns-then-put_at_if c =
     offered_full (menu_seen c.put_at_if.new.menu.items) _ _ (length-map c.put_at_if.new.menu.items item_seen ∙ c.put_at_if.ensures.full c.if-put_at_if.true)
     (offered (λ id. cond (both nat_same (slice_index_or c.args.row.now id None) (Some c.args.value)) ([] ∷ []) []) (item_seen c.args.item.now) (extended (item_seen c.args.item.now) (c.loop-place.place ∷ [])) (menu_seen c.loop-place.menu.items) (menu_seen c.put_at_if.new.menu.items) _
     c.args.ids.now c.loop-place.place (get_or c.args.ids.now c.loop-place.place 0) c.loop-place-test.true (here_is c.args.ids.now c.loop-place.place 0 c.loop-place-test.true) refl
-    (grown_if (menu_seen c.loop-place.menu.items) (menu_seen c.put_at_if.new.menu.items) (extended (item_seen c.args.item.now) (c.loop-place.place ∷ [])) c.has_value-passes.result _ c.has_value-passes.ensures c.put_at_if.ensures.is)
+    (grown_if (menu_seen c.loop-place.menu.items) (menu_seen c.put_at_if.new.menu.items) (extended (item_seen c.args.item.now) (c.loop-place.place ∷ [])) c.has_value-passes.result _ c.has_value-passes.ensures c.put_at_if.ensures.menu)
     c.loop-place.invariant.told)
 
 pub returns : goal.returns

@@ -18,4 +18,4 @@ returns-in-Some-clause-done c = λ so.
     ∙ ap (λ ps. take 256 (menu_seen c.args.menu.now.items ++ map (extended (item_seen c.args.item.now)) ps))
     (part_offers (scene_seen c.args.scene.now) c.args.scope.now (guard_meant c.args.guard.now) c.in-Some.parts c.known_parts.new.asks.items c.ids_of-ids.result.now
     (coll_value (scene_seen c.args.scene.now) c.args.scope.now (cards_in (loc_seen c.args.guard.now.loc)))
-    c.known_parts.ensures.sought c.ids_of-ids.ensures.is c.in-Some.ensures.is)
+    c.known_parts.ensures.sought c.ids_of-ids.ensures.ids c.in-Some.ensures.parts)

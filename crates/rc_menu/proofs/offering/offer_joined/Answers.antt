@@ -14,7 +14,7 @@ loop-place-preserved c = record {
   told =
       offered (λ id. cond (joined c.args.any (map (met_value id) c.args.asks.now)) ([] ∷ []) []) (item_seen c.args.item.now) (extended (item_seen c.args.item.now) (c.loop-place.place ∷ [])) (menu_seen c.loop-place.menu.items) (menu_seen c.put_at_if.new.menu.items) _
       c.args.ids.now c.loop-place.place (get_or c.args.ids.now c.loop-place.place 0) c.loop-place-test.true (here_is c.args.ids.now c.loop-place.place 0 c.loop-place-test.true) refl
-      (grown_if (menu_seen c.loop-place.menu.items) (menu_seen c.put_at_if.new.menu.items) (extended (item_seen c.args.item.now) (c.loop-place.place ∷ [])) c.joined_met-passes.result _ c.joined_met-passes.ensures c.put_at_if.ensures.is)
+      (grown_if (menu_seen c.loop-place.menu.items) (menu_seen c.put_at_if.new.menu.items) (extended (item_seen c.args.item.now) (c.loop-place.place ∷ [])) c.joined_met-passes.result _ c.joined_met-passes.ensures c.put_at_if.ensures.menu)
       c.loop-place.invariant.told;
 }
 
@@ -23,7 +23,7 @@ returns-then-put_at_if c =
     offered_full (menu_seen c.put_at_if.new.menu.items) _ _ (length-map c.put_at_if.new.menu.items item_seen ∙ c.put_at_if.ensures.full c.if-put_at_if.true)
     (offered (λ id. cond (joined c.args.any (map (met_value id) c.args.asks.now)) ([] ∷ []) []) (item_seen c.args.item.now) (extended (item_seen c.args.item.now) (c.loop-place.place ∷ [])) (menu_seen c.loop-place.menu.items) (menu_seen c.put_at_if.new.menu.items) _
     c.args.ids.now c.loop-place.place (get_or c.args.ids.now c.loop-place.place 0) c.loop-place-test.true (here_is c.args.ids.now c.loop-place.place 0 c.loop-place-test.true) refl
-    (grown_if (menu_seen c.loop-place.menu.items) (menu_seen c.put_at_if.new.menu.items) (extended (item_seen c.args.item.now) (c.loop-place.place ∷ [])) c.joined_met-passes.result _ c.joined_met-passes.ensures c.put_at_if.ensures.is)
+    (grown_if (menu_seen c.loop-place.menu.items) (menu_seen c.put_at_if.new.menu.items) (extended (item_seen c.args.item.now) (c.loop-place.place ∷ [])) c.joined_met-passes.result _ c.joined_met-passes.ensures c.put_at_if.ensures.menu)
     c.loop-place.invariant.told)
 
 pub returns : goal.returns

@@ -10,4 +10,4 @@ returns-then-are_sought c =
     c.offer_met.ensures
     ∙ ap (λ ps. take 256 (menu_seen c.args.menu.now.items ++ map (extended (item_seen c.args.item.now)) ps))
     (row_offers (scene_seen c.args.scene.now) c.args.scope.now c.args.asks.now c.args.any c.are_sought.result c.in-Some.ids.now c.args.cards.now
-    c.are_sought.ensures c.if-are_sought.true c.in-Some.ensures.is)
+    c.are_sought.ensures c.if-are_sought.true c.in-Some.ensures.ids)

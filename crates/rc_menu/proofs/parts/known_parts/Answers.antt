@@ -12,8 +12,8 @@ parts_settle-requires-clause-fixed c = subst (All IsFixedPart) (sym c.as_slice.e
 pub parts_settle-requires-clause-few : goal.parts_settle-requires-clause-few
 parts_settle-requires-clause-few c = omega (arith, c.len-few.ensures.fits, ap length c.as_slice.ensures.value)
 
-pub returns-in-Some-clause-is : goal.returns-in-Some-clause-is
-returns-in-Some-clause-is c = λ card.
+pub returns-in-Some-clause-parts : goal.returns-in-Some-clause-parts
+returns-in-Some-clause-parts c = λ card.
     guard_told (scene_seen c.args.scene.now) c.args.scope.now c.args.guard.now card
     ∙ ap (λ ps. joined c.args.guard.now.any (parts_told (scene_seen c.args.scene.now) c.args.scope.now ps card)) (sym c.as_slice.ensures.value)
-    ∙ c.in-Some.ensures.is card
+    ∙ c.in-Some.ensures.joined card

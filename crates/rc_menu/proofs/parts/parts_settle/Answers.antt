@@ -11,15 +11,15 @@ loop-place-preserved c =
       sought = c.part_settles.ensures.sought;
       told =
           part_on (scene_seen c.args.scene.now) c.args.scope.now c.args.parts.now c.args.any c.loop-place.place (get_or c.args.parts.now c.loop-place.place no_part) c.in-Some.settled c.loop-place.asks.items c.part_settles.new.asks.items
-          c.loop-place-test.true (here_is c.args.parts.now c.loop-place.place no_part c.loop-place-test.true) c.in-Some.ensures.is c.loop-place.invariant.told c.if-settled.false;
+          c.loop-place-test.true (here_is c.args.parts.now c.loop-place.place no_part c.loop-place-test.true) c.in-Some.ensures.joined c.loop-place.invariant.told c.if-settled.false;
     }
 
-pub returns-then-settled-clause-is : goal.returns-then-settled-clause-is
-returns-then-settled-clause-is c =
+pub returns-then-settled-clause-joined : goal.returns-then-settled-clause-joined
+returns-then-settled-clause-joined c =
     part_stop (scene_seen c.args.scene.now) c.args.scope.now c.args.parts.now c.args.any c.loop-place.place (get_or c.args.parts.now c.loop-place.place no_part) c.in-Some.settled c.loop-place.asks.items c.part_settles.new.asks.items
-    c.loop-place-test.true (here_is c.args.parts.now c.loop-place.place no_part c.loop-place-test.true) c.in-Some.ensures.is c.loop-place.invariant.told c.if-settled.true
+    c.loop-place-test.true (here_is c.args.parts.now c.loop-place.place no_part c.loop-place-test.true) c.in-Some.ensures.joined c.loop-place.invariant.told c.if-settled.true
 
-pub returns-clause-is : goal.returns-clause-is
-returns-clause-is c =
+pub returns-clause-joined : goal.returns-clause-joined
+returns-clause-joined c =
     part_end (scene_seen c.args.scene.now) c.args.scope.now c.args.parts.now c.args.any c.loop-place.place c.loop-place.asks.items
     c.loop-place-test.false c.loop-place.invariant.told

@@ -8,13 +8,13 @@ use Rattle.rc_records.specs.Series.{played_seen}
 use Rattle.rc_records.proofs.SeriesLemmas.{asked_alike, match_alike}
 use Rattle.rc_records.proofs.records.record_of.Goals as goal
 
-pub returns-clause-is : goal.returns-clause-is
-returns-clause-is g c =
+pub returns-clause-record : goal.returns-clause-record
+returns-clause-record g c =
     let job = c.in_ok-job.job in
     subst (λ match. IfOk c.play_noted.result (λ p. match ≡ Some (played_seen p)))
     (match_alike job.about.value c.args.about.now.value (plan_seen job.plan.value) (plan_seen c.args.plan.now.value) job.number c.args.number
     c.in_ok-job.ensures.about (ap plan_seen c.in_ok-job.ensures.plan) c.in_ok-job.ensures.number)
-    c.play_noted.ensures.is
+    c.play_noted.ensures.record
 
 pub returns-clause-noted : goal.returns-clause-noted
 returns-clause-noted g c =

@@ -37,7 +37,7 @@ loop-number-preserved g c =
     record {
       are =
           ap (map played_seen) c.in_ok-push.ensures.items
-          ∙ told_more about plan c.loop-number.number told c.in_ok-played.played c.in_ok-played.ensures.is c.loop-number.invariant.are;
+          ∙ told_more about plan c.loop-number.number told c.in_ok-played.played c.in_ok-played.ensures.record c.loop-number.invariant.are;
       count = omega (arith, c.loop-number.invariant.count, more);
       each =
           subst (All (λ p. length p.record.scores.items ≡ c.args.about.now.value.sheet.players)) (sym c.in_ok-push.ensures.items)
@@ -45,7 +45,7 @@ loop-number-preserved g c =
       noted =
           subst (All (IsNotedAs c.args.noted about plan)) (sym c.in_ok-push.ensures.items)
           (All-push (IsNotedAs c.args.noted about plan) told c.in_ok-played.played c.loop-number.invariant.noted
-          (noted_as about plan c.args.noted c.loop-number.number c.in_ok-played.played c.in_ok-played.ensures.is c.in_ok-played.ensures.noted));
+          (noted_as about plan c.args.noted c.loop-number.number c.in_ok-played.played c.in_ok-played.ensures.record c.in_ok-played.ensures.noted));
       served = c.in_ok-played.ensures.same about c.loop-number.invariant.served;
       asked =
           asked_more about plan c.loop-number.number (g.C.Chooser.counts c.args.chooser.now) (g.C.Chooser.counts c.loop-number.chooser) (g.C.Chooser.counts c.record_of.new.chooser)

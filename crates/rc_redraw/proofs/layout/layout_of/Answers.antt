@@ -13,4 +13,4 @@ pub fill_lists-requires-clause-hidden : goal.fill_lists-requires-clause-hidden
 fill_lists-requires-clause-hidden c =
     let shape = c.args.shape.now in
     let faces = c.deref.ensures.value ∙ c.in_ok-faces.ensures in
-    c.requires.rest ∙ ap length (sym (c.deref-3.ensures.value ∙ c.in_ok-unused.ensures.is ∙ ap (unused shape) (c.in_ok-taken.ensures.ids ∙ ap (seen_ids shape []) faces)))
+    c.requires.rest ∙ ap length (sym (c.deref-3.ensures.value ∙ c.in_ok-unused.ensures.unused ∙ ap (unused shape) (c.in_ok-taken.ensures.ids ∙ ap (seen_ids shape []) faces)))

@@ -34,7 +34,7 @@ loop-face-2-preserved c =
     elim c.if-index.branch [
       | then-index w ↦ (on-used shape ids flags f s id marks.each marks.tell inv.1 inv.0 c.index.result.now c.index.ensures w.if-index.true, inv.1)
       | else-index+then-face_number-face w ↦ (
-        on-other shape ids flags f s id marks.each marks.tell inv.1 inv.0 (λ is. w.if-face_number-face.true (w.face_number.ensures.is ∙ is)),
+        on-other shape ids flags f s id marks.each marks.tell inv.1 inv.0 (λ is. w.if-face_number-face.true (w.face_number.ensures.number ∙ is)),
         inv.1,
       )
     ]
@@ -53,7 +53,8 @@ loop-face-preserved c =
     let before = c.loop-face.invariant in
     let inv = c.loop-face-2.invariant in
     let is = found-it shape ids flags (slice_index c.args.faces.now k) (slice_index all k) id before.1.each before.1.tell inv.1 inv.0
-    c.index.result.now c.index.ensures c.if-index.false (sym c.face_number.ensures.is ∙ c.if-face_number-face.false) in
+    c.index.result.now c.index.ensures c.if-index.false
+    (sym c.face_number.ensures.number ∙ c.if-face_number-face.false) in
     let len = (c.seen_places_take_the_smallest.ensures.any shape c.args.faces.now c.requires).0 in
     let test = c.loop-face-test.true in
     let bound = inv.1.within in

@@ -32,7 +32,7 @@ loop-number-preserved g c =
       are =
           ap (map record_seen) c.in_ok-push.ensures.items
           ∙ played_more about (rival_seen c.args.rival.now) (plan_seen c.args.plan.now.value) c.loop-number.number played c.in_ok-record.record
-          c.in_ok-record.ensures.is c.loop-number.invariant.are;
+          c.in_ok-record.ensures.record c.loop-number.invariant.are;
       count = omega (arith, c.loop-number.invariant.count, more);
       each =
           subst (All scored) (sym c.in_ok-push.ensures.items)

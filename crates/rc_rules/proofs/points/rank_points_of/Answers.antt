@@ -11,7 +11,7 @@ loop-other-preserved c =
     let against = play.points_against sheet c.args.scores.now.items in
     record {
       is =
-          ap₂ ◌+◌ c.loop-other.invariant.is (c.points_against-points.ensures.is ∙ ap₂ against c.team_in-team.ensures c.team_in.ensures)
+          ap₂ ◌+◌ c.loop-other.invariant.is (c.points_against-points.ensures.points ∙ ap₂ against c.team_in-team.ensures c.team_in.ensures)
           ∙ sym (summed_push (λ other. against (team_in sheet.teams c.args.player) (team_in sheet.teams other)) c.loop-other.other);
       few = omega arith;
     }

@@ -32,7 +32,7 @@ next_item-requires-clause-asked g c =
     let same : lane ≡ lane_on lane.config lane.shuffles lane.notes (ready pick) = ap (lane_on lane.config lane.shuffles lane.notes) c.loop-lane.invariant.ready.1 in
     let made = c.in_ok-lane_step.ensures in
     asked_behind about rival plan m pick lane.config lane.shuffles lane.notes
-    (lane_seen g.M.Machine.config c.lane_step.new.state) (ap (stepped about plan m) (sym same) ∙ made.is) made.way
+    (lane_seen g.M.Machine.config c.lane_step.new.state) (ap (stepped about plan m) (sym same) ∙ made.stepped) made.way
 
 pub loop-lane-preserved : goal.loop-lane-preserved
 loop-lane-preserved g c =
@@ -47,9 +47,9 @@ loop-lane-preserved g c =
     let made = c.in_ok-lane_step.ensures in
     let after = lane_seen g.M.Machine.config c.lane_step.new.state in
     let sound = sound_step about (choices about rival plan m) (are_items about rival plan m) plan m is.shape is.well is.sight pick lane.config lane.shuffles lane.notes after
-    (subst (IsSoundBy about (choices about rival plan m) plan m) same c.loop-lane.invariant.sound) (ap (stepped about plan m) (sym same) ∙ made.is) made.way in
+    (subst (IsSoundBy about (choices about rival plan m) plan m) same c.loop-lane.invariant.sound) (ap (stepped about plan m) (sym same) ∙ made.stepped) made.way in
     let item = c.in-Some.item in
-    let chosen = subst (Chosen about rival plan m after.phase) c.in-Some.is c.in_ok-item.ensures.is in
+    let chosen = subst (Chosen about rival plan m after.phase) c.in-Some.is c.in_ok-item.ensures.chosen in
     record {
       own =
           record {
@@ -75,11 +75,11 @@ loop-lane-smaller g c =
     let same : lane ≡ lane_on lane.config lane.shuffles lane.notes (ready pick) = ap (lane_on lane.config lane.shuffles lane.notes) c.loop-lane.invariant.ready.1 in
     let made = c.in_ok-lane_step.ensures in
     let after = lane_seen g.M.Machine.config c.lane_step.new.state in
-    let step = ap (stepped about plan m) (sym same) ∙ made.is in
+    let step = ap (stepped about plan m) (sym same) ∙ made.stepped in
     let sound = sound_step about (choices about rival plan m) (are_items about rival plan m) plan m is.shape is.well is.sight pick lane.config lane.shuffles lane.notes after
     (subst (IsSoundBy about (choices about rival plan m) plan m) same c.loop-lane.invariant.sound) step made.way in
     let item = c.in-Some.item in
-    let chosen = subst (Chosen about rival plan m after.phase) c.in-Some.is c.in_ok-item.ensures.is in
+    let chosen = subst (Chosen about rival plan m after.phase) c.in-Some.is c.in_ok-item.ensures.chosen in
     let fewer = fewer_left about rival plan m is.shape is.well is.sight after.phase (phase_seen c.make_ready.new.phase) after.config after.shuffles after.notes item sound chosen c.make_ready.ensures in
     let still = decided_behind about plan m pick lane.config lane.shuffles lane.notes after step in
     let before = ap decided_in same in
@@ -87,8 +87,8 @@ loop-lane-smaller g c =
     let less = fewer.1 in
     omega (arith, still, before, more, less)
 
-pub returns-in-None-clause-is : goal.returns-in-None-clause-is
-returns-in-None-clause-is g c =
+pub returns-in-None-clause-record : goal.returns-in-None-clause-record
+returns-in-None-clause-record g c =
     let about = c.args.job.now.about.value in
     let plan = plan_seen c.args.job.now.plan.value in
     let m = c.args.job.now.number in
@@ -100,9 +100,9 @@ returns-in-None-clause-is g c =
     let made = c.in_ok-lane_step.ensures in
     let after = lane_seen g.M.Machine.config c.lane_step.new.state in
     let sound = sound_step about (choices about rival plan m) (are_items about rival plan m) plan m is.shape is.well is.sight pick lane.config lane.shuffles lane.notes after
-    (subst (IsSoundBy about (choices about rival plan m) plan m) same c.loop-lane.invariant.sound) (ap (stepped about plan m) (sym same) ∙ made.is) made.way in
+    (subst (IsSoundBy about (choices about rival plan m) plan m) same c.loop-lane.invariant.sound) (ap (stepped about plan m) (sym same) ∙ made.stepped) made.way in
     chosen_end about rival plan m after.phase after.config after.shuffles after.notes sound
-    (subst (Chosen about rival plan m after.phase) c.in-None.is c.in_ok-item.ensures.is)
+    (subst (Chosen about rival plan m after.phase) c.in-None.is c.in_ok-item.ensures.chosen)
 
 pub returns-in-None-clause-each : goal.returns-in-None-clause-each
 returns-in-None-clause-each g c =
@@ -110,7 +110,7 @@ returns-in-None-clause-each g c =
     let plan = plan_seen c.args.job.now.plan.value in
     let m = c.args.job.now.number in
     sym (length-map c.lane_step.new.state.notes.scores.items score_seen)
-    ∙ each_scored about (choices about (rival_seen c.args.rival.now) plan m) plan m (record_seen c.lane_step.new.state.notes) (returns-in-None-clause-is g c)
+    ∙ each_scored about (choices about (rival_seen c.args.rival.now) plan m) plan m (record_seen c.lane_step.new.state.notes) (returns-in-None-clause-record g c)
 
 pub loop-lane-init : goal.loop-lane-init
 loop-lane-init g c =
@@ -120,8 +120,8 @@ loop-lane-init g c =
     let rival = rival_seen c.args.rival.now in
     record {
       own = c.in_ok-lane.ensures.own;
-      sound = subst (IsSoundBy about (choices about rival plan m) plan m) (sym c.in_ok-lane.ensures.is) (begun_sound about (choices about rival plan m) plan m);
-      ready = (None, ap (λ (lane : MatchLane). lane.phase) c.in_ok-lane.ensures.is);
+      sound = subst (IsSoundBy about (choices about rival plan m) plan m) (sym c.in_ok-lane.ensures.begun) (begun_sound about (choices about rival plan m) plan m);
+      ready = (None, ap (λ (lane : MatchLane). lane.phase) c.in_ok-lane.ensures.begun);
       same = λ a served. served;
     }
 

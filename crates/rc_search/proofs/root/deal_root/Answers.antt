@@ -14,7 +14,7 @@ deal_to-requires-clause-laid c =
     let view = view_seen c.args.view.now in
     let dealt : c.table.result.now ≡ dealt_on about c.args.way.now view =
     c.table.ensures
-    ∙ dealt_for about c.args.way.now view c.deal_key-key.result c.args.redraws.now c.deal.new.self c.requires.deals c.deal.ensures.is c.deal_key-key.ensures in
+    ∙ dealt_for about c.args.way.now view c.deal_key-key.result c.args.redraws.now c.deal.new.self c.requires.deals c.deal.ensures.redealt c.deal_key-key.ensures in
     ap (λ (l : Laid). l.shape) dealt ∙ sym (ap (λ (a : About). a.shape) c.requires.goes.same)
 
 pub deal_to-requires-clause-moment : goal.deal_to-requires-clause-moment
@@ -23,7 +23,7 @@ deal_to-requires-clause-moment c =
     let view = view_seen c.args.view.now in
     let dealt : c.table.result.now ≡ dealt_on about c.args.way.now view =
     c.table.ensures
-    ∙ dealt_for about c.args.way.now view c.deal_key-key.result c.args.redraws.now c.deal.new.self c.requires.deals c.deal.ensures.is c.deal_key-key.ensures in
+    ∙ dealt_for about c.args.way.now view c.deal_key-key.result c.args.redraws.now c.deal.new.self c.requires.deals c.deal.ensures.redealt c.deal_key-key.ensures in
     let goes = c.requires.goes in
     let root = at_site about goes.table view.control in
     let can = can_decide about about c.args.way.now view c.table.result.now view.control c.menu_sizes_are_functions_of_views.ensures.redrawn
@@ -37,7 +37,7 @@ deal_to-requires-clause-moment c =
 
 pub returns-clause-deals : goal.returns-clause-deals
 returns-clause-deals c =
-    deals_still c.args.about.now (view_seen c.args.view.now) c.deal_key-key.result c.args.redraws.now c.deal.new.self c.requires.deals c.deal.ensures.is
+    deals_still c.args.about.now (view_seen c.args.view.now) c.deal_key-key.result c.args.redraws.now c.deal.new.self c.requires.deals c.deal.ensures.redealt
 
 pub returns-clause-stands : goal.returns-clause-stands
 returns-clause-stands c =
@@ -45,7 +45,7 @@ returns-clause-stands c =
     let view = view_seen c.args.view.now in
     let dealt : c.table.result.now ≡ dealt_on about c.args.way.now view =
     c.table.ensures
-    ∙ dealt_for about c.args.way.now view c.deal_key-key.result c.args.redraws.now c.deal.new.self c.requires.deals c.deal.ensures.is c.deal_key-key.ensures in
+    ∙ dealt_for about c.args.way.now view c.deal_key-key.result c.args.redraws.now c.deal.new.self c.requires.deals c.deal.ensures.redealt c.deal_key-key.ensures in
     let goes = c.requires.goes in
     let root = at_site about goes.table view.control in
     let is = c.deal_to.ensures in

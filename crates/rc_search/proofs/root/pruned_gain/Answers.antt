@@ -19,8 +19,8 @@ pub behind_within-requires-clause-top : goal.behind_within-requires-clause-top
 behind_within-requires-clause-top g c =
     let most = c.most_points-most.ensures ∙ ap (λ s. most_points s c.args.way.now.seat) c.sheet-sheet.ensures.same in omega (arith, most)
 
-pub returns-clause-is : goal.returns-clause-is
-returns-clause-is g c =
+pub returns-clause-gain : goal.returns-clause-gain
+returns-clause-gain g c =
     let about = c.args.about.now in
     let way = c.args.way.now in
     let view = view_seen c.args.view.now in
@@ -35,7 +35,7 @@ returns-clause-is g c =
     let few = law.1 in
     let is : bounded_to 0 c.most_points-most.result (value_behind about way c.args.depth c.args.machine.now.config 0 c.args.item)
     ≡ gain_on about way view c.args.depth c.args.item = omega (arith, same, few, there, most) in
-    subst (λ n. IfOk c.behind_within.result (λ found. found ≡ n)) is c.behind_within.ensures.is
+    subst (λ n. IfOk c.behind_within.result (λ found. found ≡ n)) is c.behind_within.ensures.value
 
 pub returns-clause-bounded : goal.returns-clause-bounded
 returns-clause-bounded g c =

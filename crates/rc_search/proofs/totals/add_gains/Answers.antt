@@ -79,7 +79,7 @@ loop-item-preserved g c =
     let read : value ≡ get_or c.loop-item.found.totals.items item 0 =
     c.index.ensures ∙ get_any c.loop-item.found.totals.items item value 0 (omega (arith, c.loop-item-test.true, as_long)) in
     let there = read ∙ ap (λ xs. get_or xs item 0) is.kept ∙ total_there about rival seed view round item old c.requires.before lt in
-    let gains = c.in_ok-gain.ensures.is ∙ ap (λ w. gain_on about w view depth item) c.requires.way in
+    let gains = c.in_ok-gain.ensures.gain ∙ ap (λ w. gain_on about w view depth item) c.requires.way in
     let small = c.requires.small item 0 (omega (arith, c.loop-item-test.true)) in
     let same = ap (λ xs. get_or xs item 0) is.kept in
     let more = tried_more about way depth root 0 item in

@@ -6,8 +6,8 @@ use Rattle.rc_log_model.proofs.Matches.{is_small}
 use Rattle.rc_seatlog.proofs.Exactly.{read_is, read_spelled, read_of, fault_first}
 use Rattle.rc_seatlog.proofs.reading.read_log.Goals as goal
 
-pub returns-clause-is : goal.returns-clause-is
-returns-clause-is c = read_is c.args.shape.now c.args.bytes.now c.read_lines.result c.players-players.ensures.limits c.read_lines.ensures c.logs_are_read.ensures.only
+pub returns-clause-text : goal.returns-clause-text
+returns-clause-text c = read_is c.args.shape.now c.args.bytes.now c.read_lines.result c.players-players.ensures.limits c.read_lines.ensures c.logs_are_read.ensures.only
 
 pub returns-clause-spelled : goal.returns-clause-spelled
 returns-clause-spelled c = read_spelled c.args.shape.now c.args.bytes.now c.read_lines.result c.players-players.ensures.limits c.read_lines.ensures c.logs_are_read.ensures.only

@@ -95,7 +95,7 @@ loop-pick-preserved g c =
     sym (λ j. stop_behind (inv.same j) (inv.deals j) (choose (inv.same j) (inv.deals j) k item config)) ∙ c.in_ok-go_on.ensures.leads in
     let s = sym c.requires.shape in
     let view : view_seen c.in_ok-view_of.field-0 ≡ view_of about.shape c.args.seat config.table config.control =
-    c.in_ok-view_of.ensures.is ∙ λ j. view_of (s j) c.args.seat (c.table.ensures j).table (c.control.ensures j) in (
+    c.in_ok-view_of.ensures.view ∙ λ j. view_of (s j) c.args.seat (c.table.ensures j).table (c.control.ensures j) in (
       stop',
       record {
         fresh = c.in_ok-go_on.ensures.fresh;

@@ -9,4 +9,4 @@ returns-in-Some c =
     let cards = c.as_slice.result.now in
     let lt : c.args.spot < length cards = search rules in
     let is : c.in-Some.card.now ≡ slice_index_or cards c.args.spot c.in-Some.card.now = search rules in
-    card_there cards _ c.args.spot c.in-Some.card.now (ap values_seen c.as_slice.ensures.value ∙ c.cards_now.ensures.is) lt is
+    card_there cards _ c.args.spot c.in-Some.card.now (ap values_seen c.as_slice.ensures.value ∙ c.cards_now.ensures.cards) lt is

@@ -7,7 +7,7 @@ use Rattle.rc_state.proofs.members.group_at.Goals as goal
 
 pub returns-then-spot-len : goal.returns-then-spot-len
 returns-then-spot-len c =
-    let cards = c.of_cards-all.ensures ∙ ap values_seen c.as_slice.ensures.value ∙ c.cards_now.ensures.is in
+    let cards = c.of_cards-all.ensures ∙ ap values_seen c.as_slice.ensures.value ∙ c.cards_now.ensures.cards in
     group_there (scene_seen c.scene_now-scene.result) c.args.attr c.of_cards-all.result c.note_values.new.values.items c.args.spot c.value_at-value.result
     (values_seen c.regroup.new.group.items) c.note_values.ensures (omega (arith, c.if-spot-len.true, c.len.ensures.value)) c.value_at-value.ensures
     c.regroup.ensures

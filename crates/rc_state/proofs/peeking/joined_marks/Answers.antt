@@ -6,11 +6,11 @@ use Rattle.rc_play_model.specs.Table.{loc_of, marks_of}
 use Rattle.rc_state.proofs.ShownLemmas.{joined_within, joined_unseen}
 use Rattle.rc_state.proofs.peeking.joined_marks.Goals as goal
 
-pub returns-clause-is : goal.returns-clause-is
-returns-clause-is c =
+pub returns-clause-marks : goal.returns-clause-marks
+returns-clause-marks c =
     let laid = c.args.table.now in
     c.joined_bits.ensures
-    ∙ ap (λ at. joined laid.shape (is_named_by laid.shape c.args.class c.args.owner) at.0 (marks_of laid.table.marks c.args.id)) c.place_of-loc.ensures.is
+    ∙ ap (λ at. joined laid.shape (is_named_by laid.shape c.args.class c.args.owner) at.0 (marks_of laid.table.marks c.args.id)) c.place_of-loc.ensures.place
 
 pub returns-clause-players : goal.returns-clause-players
 returns-clause-players c =
@@ -26,5 +26,5 @@ returns-clause-unseen c =
     let loc = loc_of laid.shape laid.table c.args.id in
     let old = (c.edits_keep_tables_sound.ensures.unseen laid.shape laid.table c.args.id c.shape-shape.ensures.sound c.requires.card).1 in
     subst (All (λ seat. sees_faces laid.shape seat loc ≡ false))
-    (sym (c.joined_bits.ensures ∙ ap (λ at. joined laid.shape named at.0 marks) c.place_of-loc.ensures.is))
+    (sym (c.joined_bits.ensures ∙ ap (λ at. joined laid.shape named at.0 marks) c.place_of-loc.ensures.place))
     (joined_unseen laid.shape named loc marks old)

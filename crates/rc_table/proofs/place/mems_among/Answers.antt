@@ -9,5 +9,5 @@ loop-place-preserved c = record {
   few = omega (arith, c.mems_here-count.ensures.few, c.loop-place.invariant.few);
   told =
       mems_on _ c.args.places.now c.loop-place.place-index c.mems_here-count.result c.loop-place.count (mems_among (map place_seen c.args.places.now))
-      c.loop-place-test.true c.mems_here-count.ensures.is c.loop-place.invariant.told;
+      c.loop-place-test.true c.mems_here-count.ensures.count c.loop-place.invariant.told;
 }

@@ -5,8 +5,8 @@ use Rattle.rc_text.specs.Gives.{Gives}
 use Rattle.rc_text.proofs.Exactly.{plain_seen, house_is, house_spelled, house_again, house_fails, read_few, read_fault}
 use Rattle.rc_text.proofs.reading.read_house.Goals as goal
 
-pub returns-clause-is : goal.returns-clause-is
-returns-clause-is c =
+pub returns-clause-text : goal.returns-clause-text
+returns-clause-text c =
     house_is c.without_marks.result c.args.bytes.now (c.without_marks.ensures c.args.bytes.now c.texts_are_read.ensures.only c.read_lines.ensures.reads)
     c.texts_are_read.ensures.only c.texts_are_of_lines.ensures.house
 

@@ -7,8 +7,8 @@ use Rattle.rc_text.specs.House.{named_seen}
 use Rattle.rc_text.proofs.Exactly.{read_is, read_spelled, read_few, read_fault}
 use Rattle.rc_text.proofs.reading.read_named.Goals as goal
 
-pub returns-clause-is : goal.returns-clause-is
-returns-clause-is c =
+pub returns-clause-text : goal.returns-clause-text
+returns-clause-text c =
     read_is (naming (lines_in c.args.legend.now).0) named_seen c.args.bytes.now c.read_lines.result c.read_lines.ensures.reads c.texts_are_read.ensures.only
 
 pub returns-clause-spelled : goal.returns-clause-spelled

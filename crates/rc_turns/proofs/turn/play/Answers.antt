@@ -5,11 +5,11 @@ use Rattle.rc_turns.proofs.turn.play.Goals as goal
 
 pub returns-clause-number : goal.returns-clause-number
 returns-clause-number g c =
-    numbers_it c.args.about.now.value (plan_seen c.args.plan.now.value) c.args.number c.record_of.result c.record_of.ensures.is
+    numbers_it c.args.about.now.value (plan_seen c.args.plan.now.value) c.args.number c.record_of.result c.record_of.ensures.record
 
-pub returns-clause-is : goal.returns-clause-is
-returns-clause-is g c =
-    is_record c.args.noted c.args.about.now.value (plan_seen c.args.plan.now.value) c.args.number c.record_of.result c.record_of.ensures.is c.record_of.ensures.each c.record_of.ensures.noted
+pub returns-clause-record : goal.returns-clause-record
+returns-clause-record g c =
+    is_record c.args.noted c.args.about.now.value (plan_seen c.args.plan.now.value) c.args.number c.record_of.result c.record_of.ensures.record c.record_of.ensures.each c.record_of.ensures.noted
 
 pub returns-clause-rise : goal.returns-clause-rise
 returns-clause-rise g c =

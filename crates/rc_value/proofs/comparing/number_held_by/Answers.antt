@@ -14,7 +14,7 @@ returns-in-Some c =
     let sheet = sheet_seen c.args.scene.now.sheet.now in
     let classes = map (λ (name : NumName). name.class) sheet.nums in
     let fits : SFits w64 c.number-in-Some.result = search rules in
-    to_z-of_z w64 c.number-in-Some.result fits ∙ c.number-in-Some.ensures.is
+    to_z-of_z w64 c.number-in-Some.result fits ∙ c.number-in-Some.ensures.number
     ∙ ap (number_there c.args.scene.now.table.now.table.numbers) (
     sym c.in-Some.is ∙ c.number.ensures
     ∙ ap (λ xs. place_in player_class c.args.player (slice_get xs c.args.name)) c.args.scene.now.looked_up.nums

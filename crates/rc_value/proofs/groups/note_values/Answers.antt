@@ -12,10 +12,10 @@ loop-place-preserved c =
       few = omega (arith, c.note.ensures.few);
       told =
           firsts_step (attr_value (scene_seen c.args.scene.now) c.args.name) c.loop-place.values.items c.note.new.values.items c.args.cards.now c.loop-place.place (value_seen c.at.result)
-          (omega (arith, c.len-place-end.ensures.is)) c.at.ensures (c.note.ensures.is ∙ ap (noted_in c.loop-place.values.items) c.attr_of.ensures) c.loop-place.invariant.told;
+          (omega (arith, c.len-place-end.ensures.count)) c.at.ensures (c.note.ensures.values ∙ ap (noted_in c.loop-place.values.items) c.attr_of.ensures) c.loop-place.invariant.told;
     }
 
 pub returns : goal.returns
 returns c =
     firsts_end (attr_value (scene_seen c.args.scene.now) c.args.name) c.loop-place.values.items c.args.cards.now c.loop-place.place
-    (omega (arith, c.len-place-end.ensures.is)) c.loop-place.invariant.told
+    (omega (arith, c.len-place-end.ensures.count)) c.loop-place.invariant.told

@@ -12,8 +12,8 @@ pub returns : goal.returns
 returns c =
     let s = c.args.scene.now in
     c.fill_marked.ensures
-    ∙ ap (λ ids. map held (filter (is_marked s.table.now.table.marks s.current.player) ids)) c.list.ensures.is
+    ∙ ap (λ ids. map held (filter (is_marked s.table.now.table.marks s.current.player) ids)) c.list.ensures.list
     ∙ known_part s c.in-Some.at
-    (ap (λ shape. sees shape s.current.player c.in-Some.at) (sym c.shape.ensures.is) ∙ sym c.sees.ensures ∙ c.if-sees.false)
-    (subst (λ ids. length ids ≤ 512) c.list.ensures.is c.list.ensures.few)
+    (ap (λ shape. sees shape s.current.player c.in-Some.at) (sym c.shape.ensures.shape) ∙ sym c.sees.ensures ∙ c.if-sees.false)
+    (subst (λ ids. length ids ≤ 512) c.list.ensures.list c.list.ensures.few)
     ∙ ap (λ p. cut (known_there (scene_seen s) p)) (sym c.in-Some.is ∙ c.loc_at.ensures)

@@ -16,7 +16,7 @@ loop-place-preserved c =
     sum_more (λ id. worth (scene_seen c.args.scene.now) c.args.points (held id)) c.args.ids.now c.loop-place.place (get_or c.args.ids.now c.loop-place.place 0)
     c.loop-place-test.true (here_is c.args.ids.now c.loop-place.place 0 c.loop-place-test.true) in
     record {
-      added = omega (arith, ints, more, c.worth_of-sum.ensures.is);
+      added = omega (arith, ints, more, c.worth_of-sum.ensures.worth);
       above = omega (arith, ints, c.worth_of-sum.ensures.few);
       below = omega (arith, ints, c.worth_of-sum.ensures.few);
     }

@@ -13,14 +13,14 @@ pub loop-place-preserved : goal.loop-place-preserved
 loop-place-preserved c =
     let more =
     sum_more (worth (scene_seen c.args.scene.now) c.args.map) c.args.cards.now c.loop-place.place (value_seen c.at.result)
-    (omega (arith, c.len-place-end.ensures.is)) c.at.ensures in
+    (omega (arith, c.len-place-end.ensures.count)) c.at.ensures in
     record {
-      added = omega (arith, ints, more, c.worth_of-sum.ensures.is);
+      added = omega (arith, ints, more, c.worth_of-sum.ensures.worth);
       above = omega (arith, ints, c.worth_of-sum.ensures.few);
       below = omega (arith, ints, c.worth_of-sum.ensures.few);
     }
 
 pub returns : goal.returns
 returns c =
-    let e = sum_all (worth (scene_seen c.args.scene.now) c.args.map) c.args.cards.now c.loop-place.place (omega (arith, c.len-place-end.ensures.is)) in
+    let e = sum_all (worth (scene_seen c.args.scene.now) c.args.map) c.args.cards.now c.loop-place.place (omega (arith, c.len-place-end.ensures.count)) in
     omega (arith, ints, clamps, e, c.clamp.ensures.value)

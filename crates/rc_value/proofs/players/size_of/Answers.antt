@@ -11,24 +11,24 @@ use Rattle.rc_value.specs.Scene.{scene_seen}
 use Rattle.rc_value.proofs.RowLemmas.{all_count}
 use Rattle.rc_value.proofs.players.size_of.Goals as goal
 
-pub returns-in-Some-clause-is : goal.returns-in-Some-clause-is
+pub returns-in-Some-clause-count : goal.returns-in-Some-clause-count
 unfolding scene_seen
-returns-in-Some-clause-is c =
+returns-in-Some-clause-count c =
     let sheet = sheet_seen c.args.scene.now.sheet.now in
     let classes = map (λ (name : LocName). name.class) sheet.locs in
     let holds = holds_references (slice_get c.args.scene.now.table.now.shape.places c.in-Some.at) in
     sym (length-map c.list.result.now (value_in holds c.in-Some.at))
     ∙ ap length (all_count holds c.in-Some.at c.list.result.now c.list.ensures.few)
-    ∙ ap (λ ids. length (cut (map (value_in holds c.in-Some.at) ids))) c.list.ensures.is
+    ∙ ap (λ ids. length (cut (map (value_in holds c.in-Some.at) ids))) c.list.ensures.list
     ∙ ap (λ p. length (cut (cards_there (scene_seen c.args.scene.now) p))) (
     sym c.in-Some.is ∙ c.location.ensures
     ∙ ap (λ xs. place_in player_class c.args.player (slice_get xs c.args.name)) c.args.scene.now.looked_up.locs
     ∙ place_is sheet player_class classes c.args.name c.args.player
     )
 
-pub returns-in-None-clause-is : goal.returns-in-None-clause-is
+pub returns-in-None-clause-count : goal.returns-in-None-clause-count
 unfolding scene_seen
-returns-in-None-clause-is c =
+returns-in-None-clause-count c =
     let sheet = sheet_seen c.args.scene.now.sheet.now in
     let classes = map (λ (name : LocName). name.class) sheet.locs in
     ap (λ p. length (cut (cards_there (scene_seen c.args.scene.now) p))) (

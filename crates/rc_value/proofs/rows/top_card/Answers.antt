@@ -15,7 +15,7 @@ returns-in-Some c =
     let seen = value_in (holds_references (slice_get c.args.scene.now.table.now.shape.places at)) at in
     c.card_in.ensures
     ∙ ap (option_map (value_in (holds_references (slice_get c.shape.result.now.places at)) at)) c.last.ensures
-    ∙ ap (λ shape. option_map (value_in (holds_references (slice_get shape.places at)) at) (last_of c.list.result.now)) c.shape.ensures.is
+    ∙ ap (λ shape. option_map (value_in (holds_references (slice_get shape.places at)) at) (last_of c.list.result.now)) c.shape.ensures.shape
     ∙ sym (last_map seen c.list.result.now) ∙ ap last_of (all_count _ at c.list.result.now c.list.ensures.few)
-    ∙ ap (λ ids. last_of (cut (map seen ids))) c.list.ensures.is
+    ∙ ap (λ ids. last_of (cut (map seen ids))) c.list.ensures.list
     ∙ ap (λ p. last_of (cut (cards_there (scene_seen c.args.scene.now) p))) (sym c.in-Some.is ∙ c.loc_at.ensures)

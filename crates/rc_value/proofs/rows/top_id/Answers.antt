@@ -10,5 +10,5 @@ use Rattle.rc_value.proofs.rows.top_id.Goals as goal
 pub returns : goal.returns
 returns c =
     let scene = scene_seen c.args.scene.now in
-    c.last.ensures ∙ ap last_of c.ids_of.ensures.is
+    c.last.ensures ∙ ap last_of c.ids_of.ensures.ids
     ∙ last_map id_of (cut (cards_there scene (loc_place scene.known c.args.scope.now (loc_seen c.args.loc.now))))

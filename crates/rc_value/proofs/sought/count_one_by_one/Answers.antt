@@ -11,11 +11,11 @@ loop-place-preserved c =
       few = passed_few c.loop-place.count c.count_if-count.result c.loop-place.place c.is_as_sought.result c.count_if-count.ensures c.loop-place.invariant.few;
       told =
           passed_on (sought_value (scene_seen c.args.scene.now) c.args.sought) c.args.cards.now c.loop-place.place (value_seen c.at.result)
-          c.loop-place.count c.count_if-count.result _ c.is_as_sought.result (omega (arith, c.len-place-end.ensures.is)) c.at.ensures
+          c.loop-place.count c.count_if-count.result _ c.is_as_sought.result (omega (arith, c.len-place-end.ensures.count)) c.at.ensures
           c.is_as_sought.ensures c.count_if-count.ensures c.loop-place.invariant.told;
     }
 
-pub returns-clause-is : goal.returns-clause-is
-returns-clause-is c =
+pub returns-clause-count : goal.returns-clause-count
+returns-clause-count c =
     passed_end (sought_value (scene_seen c.args.scene.now) c.args.sought) c.args.cards.now c.loop-place.place c.loop-place.count _
-    (omega (arith, c.len-place-end.ensures.is)) c.loop-place.invariant.told
+    (omega (arith, c.len-place-end.ensures.count)) c.loop-place.invariant.told

@@ -18,7 +18,7 @@ loop-place-preserved c =
           c.loop-place.kept c.keep-kept.result c.loop-place.place (value_seen c.card_at-card.result) c.is_as_sought-passes.result h
           (omega (arith, c.len-place-end.ensures.value)) c.card_at-card.ensures
           (sym c.is_as_sought-passes.ensures)
-          c.keep-kept.ensures.is c.keep-kept.ensures.count;
+          c.keep-kept.ensures.cards c.keep-kept.ensures.count;
     }
 
 pub returns : goal.returns

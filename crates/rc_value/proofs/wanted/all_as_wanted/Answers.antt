@@ -5,4 +5,4 @@ use Rattle.rc_value.proofs.wanted.all_as_wanted.Goals as goal
 pub returns-in-Some-values : goal.returns-in-Some-values
 returns-in-Some-values c =
     c.all_met_in.ensures
-    ∙ all_met c.args.scene.now c.args.wanted c.in-Some-values.row.now c.in-Some.ids.now c.args.cards.now c.in-Some-values.ensures c.in-Some.ensures.is
+    ∙ all_met c.args.scene.now c.args.wanted c.in-Some-values.row.now c.in-Some.ids.now c.args.cards.now c.in-Some-values.ensures c.in-Some.ensures.ids

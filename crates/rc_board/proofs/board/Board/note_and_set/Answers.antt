@@ -30,7 +30,7 @@ kept c =
     (set_number c.args.num c.args.value now.table)
     (c.in-Ok.ensures.noted ∙ ap (λ e. noted_in e (past_seen c.self.inside.past)) (c.changed_entry-entry.ensures ∙ ap (λ v. changed c.args.num v) (old_is c)))
     (set_is c)
-    (ap (λ v. undone (changed c.args.num v) (set_number c.args.num c.args.value now.table)) c.number.ensures.is ∙ number_back now.table c.args.num c.args.value)
+    (ap (λ v. undone (changed c.args.num v) (set_number c.args.num c.args.value now.table)) c.number.ensures.number ∙ number_back now.table c.args.num c.args.value)
     (c.number.ensures.clamped, tt) c.shape-sound.ensures.sound c.self.invariant
 
 pub invariant_of-self-2 : goal.invariant_of-self-2

@@ -9,16 +9,16 @@ use Rattle.rc_board.proofs.board.Board.pile.Goals as goal
 pub returns-then-holds_references-clause-leads : goal.returns-then-holds_references-clause-leads
 returns-then-holds_references-clause-leads c =
     let laid = c.args.self.now.laid in
-    let same = c.shape.ensures.is ∙ ap (λ (l : Laid). l.shape) c.table-2.ensures in
+    let same = c.shape.ensures.shape ∙ ap (λ (l : Laid). l.shape) c.table-2.ensures in
     let are = ap (λ (s : Shape). holds_references (slice_get s.places c.args.from)) (sym same) ∙ sym c.holds_references.ensures ∙ c.if-holds_references.true in
     sym (ap (relaid laid) (references_stay laid.shape c.args.to c.args.from laid.table are))
 
 pub returns-clause-leads : goal.returns-clause-leads
 returns-clause-leads c =
     let laid = c.args.self.now.laid in
-    let same = c.shape.ensures.is ∙ ap (λ (l : Laid). l.shape) c.table-2.ensures in
+    let same = c.shape.ensures.shape ∙ ap (λ (l : Laid). l.shape) c.table-2.ensures in
     let are = ap (λ (s : Shape). holds_references (slice_get s.places c.args.from)) (sym same) ∙ sym c.holds_references.ensures ∙ c.if-holds_references.false in
-    let list = c.list-few.ensures.is ∙ ap (λ (l : Laid). list_at l.table c.args.from) c.table.ensures in
+    let list = c.list-few.ensures.list ∙ ap (λ (l : Laid). list_at l.table c.args.from) c.table.ensures in
     let few = subst (λ ids. length ids ≤ 512) list c.list-few.ensures.few in
     on_ok _ _ c.pile_cards.result c.pile_cards.ensures.leads
     (λ leads. leads ∙ ap (relaid laid) (sym (cards_go laid.shape c.args.to c.args.from laid.table are few)))

@@ -16,11 +16,11 @@ kept c =
     let now = c.self.inside.table in
     let card = subst (λ (k : Kept). c.args.id < length k.laid.shape.faces) (sym c.self.view_is) c.requires.card in
     let holds = subst (λ (k : Kept). HoldsCards k.laid.shape c.args.loc) (sym c.self.view_is) c.requires.loc in
-    let back = bottom_back now.shape now.table c.args.id c.args.loc c.marks.result c.shape-sound.ensures.sound card holds c.marks.ensures c.place_of-from.result c.place_of-from.ensures.is in
+    let back = bottom_back now.shape now.table c.args.id c.args.loc c.marks.result c.shape-sound.ensures.sound card holds c.marks.ensures c.place_of-from.result c.place_of-from.ensures.place in
     noted_edit (moved c.place_of-from.result.0 c.place_of-from.result.1 c.args.loc 0 c.marks.result) (past_seen c.self.inside.past) (past_seen c.note.new.self)
     now c.put_bottom.new.self (put_bottom now.shape c.args.id c.args.loc now.table) c.in-Ok.ensures.noted c.put_bottom.ensures
     back.0
-    (from_there now.shape now.table c.args.id c.place_of-from.result c.shape-sound.ensures.sound card c.place_of-from.ensures.is, back.1)
+    (from_there now.shape now.table c.args.id c.place_of-from.result c.shape-sound.ensures.sound card c.place_of-from.ensures.place, back.1)
     c.shape-sound.ensures.sound c.self.invariant
 
 pub invariant_of-self-2 : goal.invariant_of-self-2

@@ -17,7 +17,7 @@ invariant_of-self c =
     let checked = checked_of c.deref.result.now i.about.value c.deref.ensures c.sheet-sheet.ensures.shape c.sheet-sheet.ensures.well c.sheet-sheet.ensures.sight in
     record {
       sound = keep_kept i kept c.args.m state (search rules) c.index_mut.ensures.value c.hand_over.result checked phase c.hand_over.new.entries.items
-          c.hand_over.ensures.lacking c.hand_over.ensures.is;
+          c.hand_over.ensures.lacking c.hand_over.ensures.after;
       own = own_waits i kept c.args.m state (search rules) c.index_mut.ensures.value c.hand_over.result
           (c.hand_over.new.entries.items ≡ i.entries.items) phase c.hand_over.ensures.open c.hand_over.ensures.lacking;
       seats = kept.seats;
@@ -25,10 +25,10 @@ invariant_of-self c =
       stands = kept.stands;
     }
 
-pub returns-clause-is : goal.returns-clause-is
-returns-clause-is c =
+pub returns-clause-after : goal.returns-clause-after
+returns-clause-after c =
     keep_leaves c.self.inside c.self.invariant c.args.m c.index_mut.result.now (search rules) c.index_mut.ensures.value c.hand_over.result c.self.view_is
-    c.hand_over.new.phase c.hand_over.new.entries.items c.hand_over.ensures.is
+    c.hand_over.new.phase c.hand_over.new.entries.items c.hand_over.ensures.after
 
 pub returns-clause-open : goal.returns-clause-open
 returns-clause-open c =
@@ -43,4 +43,4 @@ returns-clause-lacking c =
 pub returns-clause-spent : goal.returns-clause-spent
 returns-clause-spent c =
     keep_keeps c.self.inside c.self.invariant c.args.m c.index_mut.result.now (search rules) c.index_mut.ensures.value c.hand_over.result c.self.view_is
-    c.hand_over.new.phase c.hand_over.new.entries.items c.hand_over.ensures.lacking c.hand_over.ensures.is
+    c.hand_over.new.phase c.hand_over.new.entries.items c.hand_over.ensures.lacking c.hand_over.ensures.after

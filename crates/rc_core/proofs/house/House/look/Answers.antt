@@ -17,7 +17,7 @@ invariant_of-self c =
     let checked = checked_of c.deref.result.now i.about.value c.deref.ensures c.sheet-sheet.ensures.shape c.sheet-sheet.ensures.well c.sheet-sheet.ensures.sight in
     record {
       sound = look_kept i kept c.args.m state (search rules) c.index_mut.ensures.value c.look_up.result checked phase c.look_up.new.entries.items
-          c.look_up.ensures.lacking c.look_up.ensures.is;
+          c.look_up.ensures.lacking c.look_up.ensures.after;
       own = own_waits i kept c.args.m state (search rules) c.index_mut.ensures.value c.look_up.result
           (c.look_up.new.entries.items ≡ i.entries.items) phase c.look_up.ensures.open c.look_up.ensures.lacking;
       seats = kept.seats;
@@ -25,10 +25,10 @@ invariant_of-self c =
       stands = kept.stands;
     }
 
-pub returns-clause-is : goal.returns-clause-is
-returns-clause-is c =
+pub returns-clause-after : goal.returns-clause-after
+returns-clause-after c =
     look_leaves c.self.inside c.self.invariant c.args.m c.index_mut.result.now (search rules) c.index_mut.ensures.value c.look_up.result c.self.view_is
-    c.look_up.new.phase c.look_up.new.entries.items c.look_up.ensures.is
+    c.look_up.new.phase c.look_up.new.entries.items c.look_up.ensures.after
 
 pub returns-clause-open : goal.returns-clause-open
 returns-clause-open c =
@@ -43,4 +43,4 @@ returns-clause-lacking c =
 pub returns-clause-spent : goal.returns-clause-spent
 returns-clause-spent c =
     look_keeps c.self.inside c.self.invariant c.args.m c.index_mut.result.now (search rules) c.index_mut.ensures.value c.look_up.result c.self.view_is
-    c.look_up.new.phase c.look_up.new.entries.items c.look_up.ensures.lacking c.look_up.ensures.is
+    c.look_up.new.phase c.look_up.new.entries.items c.look_up.ensures.lacking c.look_up.ensures.after

@@ -35,7 +35,7 @@ invariant_of-self c =
     let plans = ap plan_seen c.in_ok-job.ensures.plan in
     let checked = checked_of c.deref.result.now i.about.value c.deref.ensures c.sheet-sheet.ensures.shape c.sheet-sheet.ensures.well c.sheet-sheet.ensures.sight in
     let is = along (λ a p n. OnOk c.work.result (lane_in state' ≡ worked a p n (lane_in state) (lane_in state).phase))
-    c.in_ok-job.ensures.about plans c.in_ok-job.ensures.number c.work.ensures.is in
+    c.in_ok-job.ensures.about plans c.in_ok-job.ensures.number c.work.ensures.after in
     record {
       sound = work_kept i kept c.args.m state (search rules) c.index_mut.ensures.value c.work.result checked state' is c.work.ensures.lacking;
       own = own_put i kept c.args.m state (search rules) c.index_mut.ensures.value state'
@@ -45,12 +45,12 @@ invariant_of-self c =
       stands = kept.stands;
     }
 
-pub returns-clause-is : goal.returns-clause-is
-returns-clause-is c =
+pub returns-clause-after : goal.returns-clause-after
+returns-clause-after c =
     let state = c.index_mut.result.now in
     let state' = c.work.new.state in
     let is = along (λ a p n. OnOk c.work.result (lane_in state' ≡ worked a p n (lane_in state) (lane_in state).phase))
-    c.in_ok-job.ensures.about (ap plan_seen c.in_ok-job.ensures.plan) c.in_ok-job.ensures.number c.work.ensures.is in
+    c.in_ok-job.ensures.about (ap plan_seen c.in_ok-job.ensures.plan) c.in_ok-job.ensures.number c.work.ensures.after in
     work_leaves c.self.inside c.self.invariant c.args.m state (search rules) c.index_mut.ensures.value c.work.result c.self.view_is state' is
 
 pub returns-clause-open : goal.returns-clause-open
@@ -68,6 +68,6 @@ returns-clause-spent c =
     let state = c.index_mut.result.now in
     let state' = c.work.new.state in
     let is = along (λ a p n. OnOk c.work.result (lane_in state' ≡ worked a p n (lane_in state) (lane_in state).phase))
-    c.in_ok-job.ensures.about (ap plan_seen c.in_ok-job.ensures.plan) c.in_ok-job.ensures.number c.work.ensures.is in
+    c.in_ok-job.ensures.about (ap plan_seen c.in_ok-job.ensures.plan) c.in_ok-job.ensures.number c.work.ensures.after in
     work_keeps c.self.inside c.self.invariant c.args.m state (search rules) c.index_mut.ensures.value c.work.result c.self.view_is state' is
     c.work.ensures.lacking

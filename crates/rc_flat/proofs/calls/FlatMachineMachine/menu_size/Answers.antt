@@ -5,8 +5,8 @@ use Rattle.rc_flat.specs.Machine.{Machine}
 use Rattle.rc_stand.proofs.KeptLemmas.{so_many}
 use Rattle.rc_flat.proofs.calls.FlatMachineMachine.menu_size.Goals as goal
 
-pub returns-clause-is : goal.returns-clause-is
-returns-clause-is c =
+pub returns-clause-count : goal.returns-clause-count
+returns-clause-count c =
     let m = c.self.inside in
     c.len.ensures.value
     ∙ so_many m.about (list_seen m.code.value.list.items) m.state (c.self.invariant.ready (ap (λ (m : Machine). m.spent) c.self.view_is ∙ c.requires.fresh))

@@ -11,8 +11,8 @@ use Rattle.rc_judge.specs.Seen.{marks_row, marks_left}
 use Rattle.rc_judge.proofs.Steps.{same_marks}
 use Rattle.rc_judge.proofs.margin.ToldMargin.row.Goals as goal
 
-pub returns-then-eq-clause-is : goal.returns-then-eq-clause-is
-returns-then-eq-clause-is g c =
+pub returns-then-eq-clause-row : goal.returns-then-eq-clause-row
+returns-then-eq-clause-row g c =
     let here = bounds_here (g.M.Machine.about c.args.machine.now) c.args.item (g.M.Machine.config c.args.machine.now) in
     let told = bounds_seen c.in-Some.told.now in
     let parts : c.turn.new.self.here.now ≡ c.in-Some.told.now ∷ c.in-Some.rest.now = search rules in
@@ -23,8 +23,8 @@ returns-then-eq-clause-is g c =
     let marks = ap (are_bounds told) (sym c.bounds.ensures) ∙ sym (same_marks c.in-Some.told.now.items c.bounds.result.items) ∙ slices ∙ c.if-eq.true in
     sym (ap (λ told. marks_row told here) first ∙ ap (λ (b : Bool). unless b by_name) marks)
 
-pub returns-else-eq-clause-is : goal.returns-else-eq-clause-is
-returns-else-eq-clause-is g c =
+pub returns-else-eq-clause-row : goal.returns-else-eq-clause-row
+returns-else-eq-clause-row g c =
     let here = bounds_here (g.M.Machine.about c.args.machine.now) c.args.item (g.M.Machine.config c.args.machine.now) in
     let told = bounds_seen c.in-Some.told.now in
     let parts : c.turn.new.self.here.now ≡ c.in-Some.told.now ∷ c.in-Some.rest.now = search rules in

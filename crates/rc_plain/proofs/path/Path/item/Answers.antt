@@ -5,11 +5,11 @@ use Rattle.rc_plain.specs.Paths.{item_at}
 use Rattle.rc_plain.proofs.StageLemmas.{items_are}
 use Rattle.rc_plain.proofs.path.Path.item.Goals as goal
 
-pub returns-clause-is : goal.returns-clause-is
-returns-clause-is c =
+pub returns-clause-item : goal.returns-clause-item
+returns-clause-item c =
     let next = c.self.inside.next in
     let items = items_are c.sheet.result.now c.args.about.now.sheet c.sheet.ensures.same in
-    c.item_in.ensures.is
+    c.item_in.ensures.item
     ∙ ap (λ xs. slice_get xs next) c.innermost.ensures
     ∙ ap (λ xs. slice_get (body_at (map item_seen xs) c.as_slice.result.now) next) c.deref.ensures.value
     ∙ ap (λ outer. slice_get (body_at (map item_seen c.sheet.result.now.items.items) outer) next) c.as_slice.ensures.value

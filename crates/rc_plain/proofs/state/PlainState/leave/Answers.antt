@@ -35,7 +35,7 @@ returns-clause-leads c =
     (not_round about.sheet m.path c.requires.ready.play.stands (ap stage_in c.requires.end)) leaves back.2
     (past_end (body_at (item_list about.sheet.items) m.path.outer) m.path.next c.requires.end)
     (ap (λ class. passed (owner_count about.sheet class) m.control.frames) (sym (c.class.ensures back.1 back.2))
-    ∙ ap (λ count. passed count m.control.frames) (sym c.member_count-count.ensures.is)
+    ∙ ap (λ count. passed count m.control.frames) (sym c.member_count-count.ensures.count)
     ∙ sym c.pass_frame.ensures)
 
 pub returns-clause-ready : goal.returns-clause-ready

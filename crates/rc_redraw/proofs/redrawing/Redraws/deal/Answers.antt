@@ -19,7 +19,7 @@ blend-requires-clause-exact c =
     let count = c.seen_places_take_the_smallest.ensures.rest r.shape r.view kept.of in
     let smallest = (c.seen_places_take_the_smallest.ensures.smallest r.shape r.view kept.of).0.0 in
     let known : length (seen_faces (mems_of r.shape.places) r.view.sights) ≤ length (seen_of r.shape r.view) = omega (arith, smallest) in
-    let ids = c.deref-3.ensures.value ∙ c.shuffle.ensures.is ∙ ap (permuted key) c.deref.ensures.value in
+    let ids = c.deref-3.ensures.value ∙ c.shuffle.ensures.permuted ∙ ap (permuted key) c.deref.ensures.value in
     let long = ap length c.deref-3.ensures.value ∙ c.shuffle.ensures.each ∙ ap length c.deref.ensures.value in
     let blank = ap blanks (c.deref-2.ensures.value ∙ kept.known) ∙ patterns-blanks (mems_of r.shape.places) r.view.sights (seen_of r.shape r.view) known in
     let each = ap length kept.rest in
@@ -33,11 +33,11 @@ refill-requires-clause-enough c =
     let count = c.seen_places_take_the_smallest.ensures.rest r.shape r.view kept.of in
     let smallest = (c.seen_places_take_the_smallest.ensures.smallest r.shape r.view kept.of).0.0 in
     let known : length (seen_faces (mems_of r.shape.places) r.view.sights) ≤ length (seen_of r.shape r.view) = omega (arith, smallest) in
-    let ids = c.deref-3.ensures.value ∙ c.shuffle.ensures.is ∙ ap (permuted key) c.deref.ensures.value in
+    let ids = c.deref-3.ensures.value ∙ c.shuffle.ensures.permuted ∙ ap (permuted key) c.deref.ensures.value in
     let long = ap length c.deref-3.ensures.value ∙ c.shuffle.ensures.each ∙ ap length c.deref.ensures.value in
     let old = ap length c.deref_mut.ensures.value in
     let same = c.blend.ensures.each in
-    let content = c.deref-5.ensures.value ∙ refilled c.self.inside.content.len c.self.inside.content.items c.blend.new.content c.self.inside.content.ok.0 (c.blend.ensures.each ∙ ap length c.deref_mut.ensures.value) ∙ c.blend.ensures.is
+    let content = c.deref-5.ensures.value ∙ refilled c.self.inside.content.len c.self.inside.content.items c.blend.new.content c.self.inside.content.ok.0 (c.blend.ensures.each ∙ ap length c.deref_mut.ensures.value) ∙ c.blend.ensures.blended
     ∙ ap (λ p. blended p c.deref-3.result.now) c.deref-2.ensures.value in
     let new = dealt r key _ _ _ _ _ _ _ _ kept known count c.deref-4.ensures.value ids long content in
     new.0
@@ -50,11 +50,11 @@ refill-requires-clause-sound c =
     let count = c.seen_places_take_the_smallest.ensures.rest r.shape r.view kept.of in
     let smallest = (c.seen_places_take_the_smallest.ensures.smallest r.shape r.view kept.of).0.0 in
     let known : length (seen_faces (mems_of r.shape.places) r.view.sights) ≤ length (seen_of r.shape r.view) = omega (arith, smallest) in
-    let ids = c.deref-3.ensures.value ∙ c.shuffle.ensures.is ∙ ap (permuted key) c.deref.ensures.value in
+    let ids = c.deref-3.ensures.value ∙ c.shuffle.ensures.permuted ∙ ap (permuted key) c.deref.ensures.value in
     let long = ap length c.deref-3.ensures.value ∙ c.shuffle.ensures.each ∙ ap length c.deref.ensures.value in
     let old = ap length c.deref_mut.ensures.value in
     let same = c.blend.ensures.each in
-    let content = c.deref-5.ensures.value ∙ refilled c.self.inside.content.len c.self.inside.content.items c.blend.new.content c.self.inside.content.ok.0 (c.blend.ensures.each ∙ ap length c.deref_mut.ensures.value) ∙ c.blend.ensures.is
+    let content = c.deref-5.ensures.value ∙ refilled c.self.inside.content.len c.self.inside.content.items c.blend.new.content c.self.inside.content.ok.0 (c.blend.ensures.each ∙ ap length c.deref_mut.ensures.value) ∙ c.blend.ensures.blended
     ∙ ap (λ p. blended p c.deref-3.result.now) c.deref-2.ensures.value in
     let new = dealt r key _ _ _ _ _ _ _ _ kept known count c.deref-4.ensures.value ids long content in
     subst (IsSound r.shape) (sym new.1) (c.redrawn_tables_are_sound.ensures r.shape r.view key kept.of)
@@ -67,14 +67,14 @@ invariant_of-self c =
     let count = c.seen_places_take_the_smallest.ensures.rest r.shape r.view kept.of in
     let smallest = (c.seen_places_take_the_smallest.ensures.smallest r.shape r.view kept.of).0.0 in
     let known : length (seen_faces (mems_of r.shape.places) r.view.sights) ≤ length (seen_of r.shape r.view) = omega (arith, smallest) in
-    let ids = c.deref-3.ensures.value ∙ c.shuffle.ensures.is ∙ ap (permuted key) c.deref.ensures.value in
+    let ids = c.deref-3.ensures.value ∙ c.shuffle.ensures.permuted ∙ ap (permuted key) c.deref.ensures.value in
     let long = ap length c.deref-3.ensures.value ∙ c.shuffle.ensures.each ∙ ap length c.deref.ensures.value in
     let old = ap length c.deref_mut.ensures.value in
     let same = c.blend.ensures.each in
-    let content = c.deref-5.ensures.value ∙ refilled c.self.inside.content.len c.self.inside.content.items c.blend.new.content c.self.inside.content.ok.0 (c.blend.ensures.each ∙ ap length c.deref_mut.ensures.value) ∙ c.blend.ensures.is
+    let content = c.deref-5.ensures.value ∙ refilled c.self.inside.content.len c.self.inside.content.items c.blend.new.content c.self.inside.content.ok.0 (c.blend.ensures.each ∙ ap length c.deref_mut.ensures.value) ∙ c.blend.ensures.blended
     ∙ ap (λ p. blended p c.deref-3.result.now) c.deref-2.ensures.value in
     let new = dealt r key _ _ _ _ _ _ _ _ kept known count c.deref-4.ensures.value ids long content in
-    let is = c.refill.ensures.is ∙ ap (λ table. record { shape = r.shape; table = table }) new.1 in
+    let is = c.refill.ensures.refilled ∙ ap (λ table. record { shape = r.shape; table = table }) new.1 in
     let all = refilled c.self.inside.content.len c.self.inside.content.items c.blend.new.content c.self.inside.content.ok.0 (c.blend.ensures.each ∙ ap length c.deref_mut.ensures.value) in
     let filled = ap length all in
     rw is
@@ -86,25 +86,25 @@ invariant_of-self c =
       rest = kept.rest;
       few = kept.few;
       each = c.shuffle.ensures.each ∙ ap length c.deref.ensures.value;
-      is = ap (redrawn r.shape r.view) (sym (c.shuffle.ensures.is ∙ ap (permuted key) (c.deref.ensures.value ∙ kept.rest)));
+      is = ap (redrawn r.shape r.view) (sym (c.shuffle.ensures.permuted ∙ ap (permuted key) (c.deref.ensures.value ∙ kept.rest)));
     })
 
-pub returns-clause-is : goal.returns-clause-is
-returns-clause-is c =
+pub returns-clause-redealt : goal.returns-clause-redealt
+returns-clause-redealt c =
     let r : Redrawn = record { shape = c.self.inside.table.shape; view = view_seen c.self.inside.view.now; table = c.self.inside.table.table } in
     let kept = c.self.invariant in
     let key = c.args.key.now in
     let count = c.seen_places_take_the_smallest.ensures.rest r.shape r.view kept.of in
     let smallest = (c.seen_places_take_the_smallest.ensures.smallest r.shape r.view kept.of).0.0 in
     let known : length (seen_faces (mems_of r.shape.places) r.view.sights) ≤ length (seen_of r.shape r.view) = omega (arith, smallest) in
-    let ids = c.deref-3.ensures.value ∙ c.shuffle.ensures.is ∙ ap (permuted key) c.deref.ensures.value in
+    let ids = c.deref-3.ensures.value ∙ c.shuffle.ensures.permuted ∙ ap (permuted key) c.deref.ensures.value in
     let long = ap length c.deref-3.ensures.value ∙ c.shuffle.ensures.each ∙ ap length c.deref.ensures.value in
     let old = ap length c.deref_mut.ensures.value in
     let same = c.blend.ensures.each in
-    let content = c.deref-5.ensures.value ∙ refilled c.self.inside.content.len c.self.inside.content.items c.blend.new.content c.self.inside.content.ok.0 (c.blend.ensures.each ∙ ap length c.deref_mut.ensures.value) ∙ c.blend.ensures.is
+    let content = c.deref-5.ensures.value ∙ refilled c.self.inside.content.len c.self.inside.content.items c.blend.new.content c.self.inside.content.ok.0 (c.blend.ensures.each ∙ ap length c.deref_mut.ensures.value) ∙ c.blend.ensures.blended
     ∙ ap (λ p. blended p c.deref-3.result.now) c.deref-2.ensures.value in
     let new = dealt r key _ _ _ _ _ _ _ _ kept known count c.deref-4.ensures.value ids long content in
-    let is = c.refill.ensures.is ∙ ap (λ table. record { shape = r.shape; table = table }) new.1 in
+    let is = c.refill.ensures.refilled ∙ ap (λ table. record { shape = r.shape; table = table }) new.1 in
     ap (λ (laid : Laid). record { shape = laid.shape; view = r.view; table = laid.table }) is ∙ ap (redealt key) c.self.view_is
 
 pub returns-clause-sound : goal.returns-clause-sound
@@ -115,14 +115,14 @@ returns-clause-sound c =
     let count = c.seen_places_take_the_smallest.ensures.rest r.shape r.view kept.of in
     let smallest = (c.seen_places_take_the_smallest.ensures.smallest r.shape r.view kept.of).0.0 in
     let known : length (seen_faces (mems_of r.shape.places) r.view.sights) ≤ length (seen_of r.shape r.view) = omega (arith, smallest) in
-    let ids = c.deref-3.ensures.value ∙ c.shuffle.ensures.is ∙ ap (permuted key) c.deref.ensures.value in
+    let ids = c.deref-3.ensures.value ∙ c.shuffle.ensures.permuted ∙ ap (permuted key) c.deref.ensures.value in
     let long = ap length c.deref-3.ensures.value ∙ c.shuffle.ensures.each ∙ ap length c.deref.ensures.value in
     let old = ap length c.deref_mut.ensures.value in
     let same = c.blend.ensures.each in
-    let content = c.deref-5.ensures.value ∙ refilled c.self.inside.content.len c.self.inside.content.items c.blend.new.content c.self.inside.content.ok.0 (c.blend.ensures.each ∙ ap length c.deref_mut.ensures.value) ∙ c.blend.ensures.is
+    let content = c.deref-5.ensures.value ∙ refilled c.self.inside.content.len c.self.inside.content.items c.blend.new.content c.self.inside.content.ok.0 (c.blend.ensures.each ∙ ap length c.deref_mut.ensures.value) ∙ c.blend.ensures.blended
     ∙ ap (λ p. blended p c.deref-3.result.now) c.deref-2.ensures.value in
     let new = dealt r key _ _ _ _ _ _ _ _ kept known count c.deref-4.ensures.value ids long content in
-    let is = c.refill.ensures.is ∙ ap (λ table. record { shape = r.shape; table = table }) new.1 in
+    let is = c.refill.ensures.refilled ∙ ap (λ table. record { shape = r.shape; table = table }) new.1 in
     subst (λ (laid : Laid). IsSound laid.shape laid.table) (sym is) (c.redrawn_tables_are_sound.ensures r.shape r.view key kept.of)
 
 pub returns-clause-view : goal.returns-clause-view
@@ -133,13 +133,13 @@ returns-clause-view c =
     let count = c.seen_places_take_the_smallest.ensures.rest r.shape r.view kept.of in
     let smallest = (c.seen_places_take_the_smallest.ensures.smallest r.shape r.view kept.of).0.0 in
     let known : length (seen_faces (mems_of r.shape.places) r.view.sights) ≤ length (seen_of r.shape r.view) = omega (arith, smallest) in
-    let ids = c.deref-3.ensures.value ∙ c.shuffle.ensures.is ∙ ap (permuted key) c.deref.ensures.value in
+    let ids = c.deref-3.ensures.value ∙ c.shuffle.ensures.permuted ∙ ap (permuted key) c.deref.ensures.value in
     let long = ap length c.deref-3.ensures.value ∙ c.shuffle.ensures.each ∙ ap length c.deref.ensures.value in
     let old = ap length c.deref_mut.ensures.value in
     let same = c.blend.ensures.each in
-    let content = c.deref-5.ensures.value ∙ refilled c.self.inside.content.len c.self.inside.content.items c.blend.new.content c.self.inside.content.ok.0 (c.blend.ensures.each ∙ ap length c.deref_mut.ensures.value) ∙ c.blend.ensures.is
+    let content = c.deref-5.ensures.value ∙ refilled c.self.inside.content.len c.self.inside.content.items c.blend.new.content c.self.inside.content.ok.0 (c.blend.ensures.each ∙ ap length c.deref_mut.ensures.value) ∙ c.blend.ensures.blended
     ∙ ap (λ p. blended p c.deref-3.result.now) c.deref-2.ensures.value in
     let new = dealt r key _ _ _ _ _ _ _ _ kept known count c.deref-4.ensures.value ids long content in
-    let is = c.refill.ensures.is ∙ ap (λ table. record { shape = r.shape; table = table }) new.1 in
+    let is = c.refill.ensures.refilled ∙ ap (λ table. record { shape = r.shape; table = table }) new.1 in
     subst (λ (laid : Laid). view_of laid.shape r.view.seat laid.table r.view.control ≡ r.view) (sym is)
     (c.redrawn_tables_keep_the_view.ensures.view r.shape r.view key kept.of)

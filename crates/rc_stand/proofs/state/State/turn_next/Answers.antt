@@ -27,7 +27,7 @@ returns-clause-leads c =
     λ dealing k.
     turn_leads m dealing k c.requires.within.0 c.args.place frames c.requires.within.1 c.requires.round c.requires.end
     (ap (λ (s : Stage). passed (owner_count about.sheet s.class) m.control.frames) there
-    ∙ ap (λ count. passed count m.control.frames) (sym c.member_count-count.ensures.is)
+    ∙ ap (λ count. passed count m.control.frames) (sym c.member_count-count.ensures.count)
     ∙ sym c.pass_frame_by-self.ensures.passed)
     ∙ ap (λ path. goes k (config_of (moved m path m.table (with_frames m.control frames)))) (sym c.to_round.ensures)
 

@@ -14,8 +14,8 @@ index-requires c =
     let long = ap length noted ∙ noted_all laid.shape laid.table in
     omega (arith, c.requires, long, c.self.inside.whereabouts.ok.0)
 
-pub returns-clause-is : goal.returns-clause-is
-returns-clause-is c =
+pub returns-clause-place : goal.returns-clause-place
+returns-clause-place c =
     let id = c.args.id in
     let laid = c.args.self.now in
     let stand = c.self.inside.whereabouts.items in
@@ -43,5 +43,5 @@ returns-clause-stands c =
     let sound = subst (λ (laid : Laid). IsSound laid.shape laid.table) c.self.view_is c.self.invariant.sound in
     let s = stands laid.shape laid.table sound id c.requires in
     let at = place_of laid.shape laid.table id in
-    subst (λ (at : ℕ × ℕ). slice_get (list_at laid.table at.0) at.1 ≡ Some id) (sym (returns-clause-is c))
+    subst (λ (at : ℕ × ℕ). slice_get (list_at laid.table at.0) at.1 ≡ Some id) (sym (returns-clause-place c))
     (slice_get-get_or (list_at laid.table at.0) at.1 0 s.1 ∙ ap Some s.2)

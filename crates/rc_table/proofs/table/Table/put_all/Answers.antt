@@ -13,11 +13,11 @@ loop-at-preserved c =
     let count = c.put_some-at.ensures.count in
     let within = loop.invariant.within in
     let whole = take_all (length ids - loop.at) (drop loop.at ids) (omega (arith, left)) in
-    let is = c.put_some-at.ensures.is
+    let is = c.put_some-at.ensures.put
     ∙ ap (λ xs. relaid loop.self (put_each loop.self.shape (end_of c.args.side) c.args.loc (take c.put_some-at.result xs) loop.self.table)) whole in
     record {
       within = omega (arith, left, count, within);
-      shape = ap (λ (laid : Laid). laid.shape) c.put_some-at.ensures.is ∙ loop.invariant.shape;
+      shape = ap (λ (laid : Laid). laid.shape) c.put_some-at.ensures.put ∙ loop.invariant.shape;
       leads = more_put c.args.self.now loop.self c.put_some-at.new.self (end_of c.args.side) c.args.loc ids loop.at c.put_some-at.result
           loop.invariant.shape is loop.invariant.leads;
     }

@@ -32,7 +32,7 @@ move_between-requires-clause-sound c =
     let table : Table = record { lists = c.self.inside.lists.all; numbers = c.self.inside.numbers.items; marks = c.self.inside.marks } in
     let card = subst (λ (laid : Laid). id < length laid.shape.faces) (sym c.self.view_is) c.requires.card in
     let holds = subst (λ (laid : Laid). HoldsCards laid.shape loc) (sym c.self.view_is) c.requires.loc in
-    let here = subst (λ (laid : Laid). c.place_of-from.result ≡ place_of laid.shape laid.table id) (sym c.self.view_is) c.place_of-from.ensures.is in
+    let here = subst (λ (laid : Laid). c.place_of-from.result ≡ place_of laid.shape laid.table id) (sym c.self.view_is) c.place_of-from.ensures.place in
     let sound = c.self.invariant.sound in
     let quiet = cleared_sound shape table (id ∷ []) sound in
     let is = put_bottom_is shape (set_marks id [] table) quiet id card c.place_of-from.result loc here in
@@ -46,7 +46,7 @@ returns c =
     let shape = c.self.inside.shape.value in
     let table : Table = record { lists = c.self.inside.lists.all; numbers = c.self.inside.numbers.items; marks = c.self.inside.marks } in
     let card = subst (λ (laid : Laid). id < length laid.shape.faces) (sym c.self.view_is) c.requires.card in
-    let here = subst (λ (laid : Laid). c.place_of-from.result ≡ place_of laid.shape laid.table id) (sym c.self.view_is) c.place_of-from.ensures.is in
+    let here = subst (λ (laid : Laid). c.place_of-from.result ≡ place_of laid.shape laid.table id) (sym c.self.view_is) c.place_of-from.ensures.place in
     let quiet = cleared_sound shape table (id ∷ []) c.self.invariant.sound in
     let is = put_bottom_is shape (set_marks id [] table) quiet id card c.place_of-from.result loc here in
     let laid : Laid = record { shape = shape; table = table } in

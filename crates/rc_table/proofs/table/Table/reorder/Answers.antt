@@ -26,7 +26,7 @@ relist-requires-clause-sound c =
     let table : Table = record { lists = c.self.inside.lists.all; numbers = c.self.inside.numbers.items; marks = c.self.inside.marks } in
     let within = subst (λ (laid : Laid). loc < length laid.shape.places) (sym c.self.view_is) c.requires.loc in
     let permutes = subst (λ (laid : Laid). IsPermutation (below (length (list_at laid.table loc))) order) (sym c.self.view_is) c.requires.order in
-    let list = c.put_in_order-count.ensures.is ∙ ap (taken order) (c.list.ensures.is ∙ ap (λ (laid : Laid). list_at laid.table loc) (sym c.self.view_is)) in
+    let list = c.put_in_order-count.ensures.cards ∙ ap (taken order) (c.list.ensures.list ∙ ap (λ (laid : Laid). list_at laid.table loc) (sym c.self.view_is)) in
     let marks = c.clear_all.ensures ∙ ap (λ ids. cleared ids c.self.inside.marks) c.list-2.ensures in
     let sound = c.edits_keep_tables_sound.ensures.reordered shape table loc order c.self.invariant.sound within permutes in
     rw marks (subst (IsSound shape) (sym (relisted_is table loc order _ permutes list)) sound)
@@ -39,7 +39,7 @@ returns c =
     let table : Table = record { lists = c.self.inside.lists.all; numbers = c.self.inside.numbers.items; marks = c.self.inside.marks } in
     let laid : Laid = record { shape = shape; table = table } in
     let permutes = subst (λ (laid : Laid). IsPermutation (below (length (list_at laid.table loc))) order) (sym c.self.view_is) c.requires.order in
-    let list = c.put_in_order-count.ensures.is ∙ ap (taken order) (c.list.ensures.is ∙ ap (λ (laid : Laid). list_at laid.table loc) (sym c.self.view_is)) in
+    let list = c.put_in_order-count.ensures.cards ∙ ap (taken order) (c.list.ensures.list ∙ ap (λ (laid : Laid). list_at laid.table loc) (sym c.self.view_is)) in
     let marks = c.clear_all.ensures ∙ ap (λ ids. cleared ids c.self.inside.marks) c.list-2.ensures in
     c.relist.ensures
     ∙ ap (λ marks. relaid laid (relisted loc (take c.put_in_order-count.result c.put_in_order-count.new.room)

@@ -4,5 +4,5 @@ use Rattle.rc_value.specs.Seen.{listed}
 use Rattle.rc_value.proofs.RowLemmas.{ids_read}
 use Rattle.rc_value.proofs.collection.Collection.ids.Goals as goal
 
-pub returns-in-There-clause-is : goal.returns-in-There-clause-is
-returns-in-There-clause-is c = ids_read _ _ ∙ ap (λ source. map id_of (listed source)) (sym c.in-There.is) ∙ ap (map id_of) c.self.view_is
+pub returns-in-There-clause-ids : goal.returns-in-There-clause-ids
+returns-in-There-clause-ids c = ids_read _ _ ∙ ap (λ source. map id_of (listed source)) (sym c.in-There.is) ∙ ap (map id_of) c.self.view_is
