@@ -81,13 +81,13 @@ TEXT_SCOPES = {"string.unquoted": "Face", "variable.other": "Mark", "support.fun
 
 def sheet_words() -> list[str]:
     """The fixed words of the table of the grammar."""
-    text = (ROOT / "crates/rc_grammar/specs/Keyword.antt").read_text("utf-8")
+    text = (ROOT / "crates/rc_check/specs/Keyword.antt").read_text("utf-8")
     return sorted(re.findall(r'^text_of keyword\.\w+ = codes "(.+)"$', text, re.MULTILINE))
 
 
 def plan_words() -> list[str]:
     """The fixed words of the faults of plans."""
-    text = (ROOT / "crates/rc_plan_model/specs/Faults.antt").read_text("utf-8")
+    text = (ROOT / "crates/rc_play_spec/specs/Faults.antt").read_text("utf-8")
     return sorted(set(re.findall(r'codes "(\w+)"', text)))
 
 

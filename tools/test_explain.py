@@ -320,8 +320,8 @@ class Explanations(unittest.TestCase):
 
     def test_each_kind_of_the_program_has_a_sentence(self) -> None:
         for file, name, sentences in (
-            ("rc_answers/src/status.rt", "SourceKind", kinds.SHEET),
-            ("rc_plan_model/src/fault.rt", "PlanKind", kinds.PLAN),
+            ("rc_commands/src/status.rt", "SourceKind", kinds.SHEET),
+            ("rc_play_spec/src/fault.rt", "PlanKind", kinds.PLAN),
             ("rc_judge/src/verdict.rt", "Why", kinds.ILLEGAL),
         ):
             with self.subTest(name):
@@ -430,7 +430,7 @@ class Forms(unittest.TestCase):
     """The forms are those of the table of the grammar."""
 
     def setUp(self) -> None:
-        specs = ROOT / "crates/rc_grammar/specs"
+        specs = ROOT / "crates/rc_check/specs"
         self.words = dict(re.findall(r'^text_of keyword\.(\w+) = codes "(.+)"$', (specs / "Keyword.antt").read_text(), re.MULTILINE))
         grammar = (specs / "Grammar.antt").read_text()
         rows = re.findall(r"^(\w+)_of (?:symbol|rule)\.(\w+) = (.+)$", grammar, re.MULTILINE)

@@ -15,7 +15,7 @@ from cases.running import Case, End
 SOURCE = ROOT / "bench/stops.main"
 EXAMPLES = ROOT / "examples"
 CRATE = "bench_stops"
-LIBRARIES = "rc_model rc_names rc_outside rc_deck rc_form rc_play_model rc_flow rc_draw rc_table rc_rules rc_plain rc_code rc_flat rc_plan rc_games"
+LIBRARIES = "rc_base rc_base rc_outside rc_deck rc_form rc_play_spec rc_flow rc_draw rc_table rc_rules rc_plain rc_code rc_flat rc_plan rc_games"
 
 AGREE = re.compile(r"(\d+) stops agree\n")
 ROLLS_OUT = re.compile(r"\(rollout\s")

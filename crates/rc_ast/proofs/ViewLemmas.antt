@@ -1,8 +1,8 @@
 -- The tree of a value that holds a vector of others, from the trees of the vector's items.
 use Rattle.std.proofs.Common.{◌≡◌, ℕ, ◌+◌, ◌<◌, List, length, get_or, drop, Vec, Global, refl, sym, ap, ◌∙◌}
 use Rattle.std.proofs.lemmas.List.{at_drop_more}
-use Rattle.rc_sheet_model.specs.Sheet.{coll, union_of, test, and_of, or_of, effect, when, repeat, for_each, item, stage}
-use Rattle.rc_sheet_model.specs.Sheet.{Class}
+use Rattle.rc_sheet_spec.specs.Sheet.{coll, union_of, test, and_of, or_of, effect, when, repeat, for_each, item, stage}
+use Rattle.rc_sheet_spec.specs.Sheet.{Class}
 use Rattle.rc_ast.specs.declared.expressions.CollExpr.{CollExpr, Union, Union', Row_of-CollExpr, end_of-CollExpr, more_of-CollExpr, items-the_row-CollExpr, items_hidden-the_row-CollExpr-0}
 use Rattle.rc_ast.specs.declared.expressions.IntExpr.{IntExpr}
 use Rattle.rc_ast.specs.declared.expressions.Test.{Test, And, Or, And', Or', Row_of-Test, end_of-Test, more_of-Test, items-the_row-Test, items_hidden-the_row-Test-1}

@@ -1,8 +1,8 @@
 -- Effects as the pure trees have them. A row is a vector's items.
 use Rattle.std.specs.Prelude.{List, map}
-use Rattle.rc_sheet_model.specs.Sheet.{top, bottom, move, move_all, remember, forget, shuffle, set_to, increase, decrease, when, repeat, for_each, next_is, turn_round, peek, Effects, no_effect, effect}
-use Rattle.rc_sheet_model.specs.Sheet.{End as PureEnd, Effect as PureEffect}
-use Rattle.rc_sheet_model.specs.Lists.{effects_from}
+use Rattle.rc_sheet_spec.specs.Sheet.{top, bottom, move, move_all, remember, forget, shuffle, set_to, increase, decrease, when, repeat, for_each, next_is, turn_round, peek, Effects, no_effect, effect}
+use Rattle.rc_sheet_spec.specs.Sheet.{End as PureEnd, Effect as PureEffect}
+use Rattle.rc_sheet_spec.specs.Lists.{effects_from}
 use Rattle.rc_ast.specs.declared.effects.End.{End}
 use Rattle.rc_ast.specs.declared.effects.End.TheVariants.{Top, Bottom}
 use Rattle.rc_ast.specs.declared.effects.Effect.{Effect, Move, MoveAll, Remember, Forget, Shuffle, Set, Inc, Dec, If', Repeat', Each', Next, Reverse, Peek, Row_of-Effect, end_of-Effect, more_of-Effect}

@@ -1,8 +1,8 @@
 -- Expressions and tests as the pure trees have them. A row is a vector's items.
 use Rattle.std.specs.Prelude.{List, map}
-use Rattle.rc_sheet_model.specs.Sheet.{card_var, top_card, bottom_card, max_card, min_card, group_var, cards_in, filtered, union_of, known_in, CollExprs, no_coll, coll, literal, number, size_of, sum_of, worth_of, add, subtract, multiply, eq_int, eq_card, eq_attr, eq_who, ne, less, less_eq, more, more_eq, has_value, and_of, or_of, not_of, all_of, any_of, Tests, no_test, test, each_player, each_card, each_group}
-use Rattle.rc_sheet_model.specs.Sheet.{CardExpr as PureCard, CollExpr as PureColl, IntExpr as PureInt, Test as PureTest, Domain as PureDomain}
-use Rattle.rc_sheet_model.specs.Lists.{colls_from, tests_from}
+use Rattle.rc_sheet_spec.specs.Sheet.{card_var, top_card, bottom_card, max_card, min_card, group_var, cards_in, filtered, union_of, known_in, CollExprs, no_coll, coll, literal, number, size_of, sum_of, worth_of, add, subtract, multiply, eq_int, eq_card, eq_attr, eq_who, ne, less, less_eq, more, more_eq, has_value, and_of, or_of, not_of, all_of, any_of, Tests, no_test, test, each_player, each_card, each_group}
+use Rattle.rc_sheet_spec.specs.Sheet.{CardExpr as PureCard, CollExpr as PureColl, IntExpr as PureInt, Test as PureTest, Domain as PureDomain}
+use Rattle.rc_sheet_spec.specs.Lists.{colls_from, tests_from}
 use Rattle.rc_ast.specs.declared.expressions.CardExpr.{CardExpr, Var as CardVar, Top', Bottom', Max', Min'}
 use Rattle.rc_ast.specs.declared.expressions.CollExpr.{CollExpr, Var as GroupVar, Loc as CardsIn, Filter', Union', Known, Row_of-CollExpr, end_of-CollExpr, more_of-CollExpr}
 use Rattle.rc_ast.specs.declared.expressions.IntExpr.{IntExpr, Lit, Num as Number, Size', Sum', Points', Add', Sub', Mul'}

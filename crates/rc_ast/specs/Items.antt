@@ -1,8 +1,8 @@
 -- Alternatives and items as the pure trees have them. A row is a vector's items.
 use Rattle.std.specs.Prelude.{List, map}
-use Rattle.rc_sheet_model.specs.Sheet.{do_alt, if_alt, any_alt, do_item, stage, choice, SheetItems, no_item, item}
-use Rattle.rc_sheet_model.specs.Sheet.{Alt as PureAlt, SheetItem as PureItem}
-use Rattle.rc_sheet_model.specs.Lists.{items_from}
+use Rattle.rc_sheet_spec.specs.Sheet.{do_alt, if_alt, any_alt, do_item, stage, choice, SheetItems, no_item, item}
+use Rattle.rc_sheet_spec.specs.Sheet.{Alt as PureAlt, SheetItem as PureItem}
+use Rattle.rc_sheet_spec.specs.Lists.{items_from}
 use Rattle.rc_ast.specs.declared.items.Alt.{Alt, Do as DoAlt, If as IfAlt, Any'}
 use Rattle.rc_ast.specs.declared.items.SheetItem.{SheetItem, Do, Stage', Choice, Row_of-SheetItem, end_of-SheetItem, more_of-SheetItem}
 use Rattle.rc_ast.specs.Expressions.{test_seen, domain_seen}

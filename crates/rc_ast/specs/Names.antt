@@ -1,6 +1,6 @@
 -- Names, owners and locations as the pure trees have them.
-use Rattle.rc_sheet_model.specs.Sheet.{game, current_player, current_team, team_of_current, team_of_var, who_var}
-use Rattle.rc_sheet_model.specs.Sheet.{Names as PureNames, LocName as PureLocName, NumName as PureNumName, Who as PureWho, Loc as PureLoc, Num as PureNum}
+use Rattle.rc_sheet_spec.specs.Sheet.{game, current_player, current_team, team_of_current, team_of_var, who_var}
+use Rattle.rc_sheet_spec.specs.Sheet.{Names as PureNames, LocName as PureLocName, NumName as PureNumName, Who as PureWho, Loc as PureLoc, Num as PureNum}
 use Rattle.rc_ast.specs.declared.names.Names.{Names}
 use Rattle.rc_ast.specs.declared.names.LocName.{LocName}
 use Rattle.rc_ast.specs.declared.names.NumName.{NumName}

@@ -2,8 +2,8 @@
 use Rattle.std.specs.Prelude.{map, option_map}
 use Rattle.rc_deck.specs.Tree.{groups_of}
 use Rattle.rc_deck.specs.Points.{entries_of}
-use Rattle.rc_sheet_model.specs.Sheet.{highest, lowest}
-use Rattle.rc_sheet_model.specs.Sheet.{Teams as PureTeams, Best as PureBest, DeckLine as PureDeckLine, Sheet as PureSheet}
+use Rattle.rc_sheet_spec.specs.Sheet.{highest, lowest}
+use Rattle.rc_sheet_spec.specs.Sheet.{Teams as PureTeams, Best as PureBest, DeckLine as PureDeckLine, Sheet as PureSheet}
 use Rattle.rc_ast.specs.declared.sheet.Teams.{Teams}
 use Rattle.rc_ast.specs.declared.sheet.Best.{Best}
 use Rattle.rc_ast.specs.declared.sheet.Best.TheVariants.{Max, Min}

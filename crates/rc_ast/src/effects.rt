@@ -1,6 +1,6 @@
 //! What a play changes.
 ghost use Rattle.std.specs.Prelude.{◌≡◌};
-ghost use Rattle.rc_sheet_model.specs.Sheet.{when, repeat, for_each};
+ghost use Rattle.rc_sheet_spec.specs.Sheet.{when, repeat, for_each};
 ghost use Rattle.rc_ast.specs.Expressions.{int_seen, test_seen, domain_seen};
 ghost use Rattle.rc_ast.specs.Effects.{effect_seen, effects_seen};
 

@@ -1,6 +1,6 @@
 //! Expressions for cards, lists of cards and numbers, and tests.
 ghost use Rattle.std.specs.Prelude.{◌≡◌};
-ghost use Rattle.rc_sheet_model.specs.Sheet.{union_of, and_of, or_of};
+ghost use Rattle.rc_sheet_spec.specs.Sheet.{union_of, and_of, or_of};
 ghost use Rattle.rc_ast.specs.Expressions.{coll_seen, colls_seen, test_seen, tests_seen};
 
 /// An owner. A variable is its place among the variables in scope, the outermost being 0.

@@ -1,6 +1,6 @@
 //! The stages and choices of a game.
 ghost use Rattle.std.specs.Prelude.{◌≡◌};
-ghost use Rattle.rc_sheet_model.specs.Sheet.{stage};
+ghost use Rattle.rc_sheet_spec.specs.Sheet.{stage};
 ghost use Rattle.rc_ast.specs.Expressions.{test_seen};
 ghost use Rattle.rc_ast.specs.Items.{item_seen, items_seen};
 

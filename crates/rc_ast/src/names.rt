@@ -1,6 +1,6 @@
 //! What the numbers of a sheet stand for.
 
-use rc_names::{Class, LocKind, Word};
+use rc_base::{Class, LocKind, Word};
 
 /// The words of a sheet, each of which is numbered by its place in its list.
 #[derive(Debug)]

@@ -3,9 +3,9 @@
 use Rattle.std.specs.Prelude.{ℕ, ◌+◌, List, [], ◌∷◌, ◌++◌, length, fold, pos, Option, Some, None}
 use Rattle.std.specs.Hash as fed
 use Rattle.std.specs.Hash.FoldHasher as folding
-use Rattle.rc_play_model.specs.Control.{Frame, Control}
-use Rattle.rc_play_model.specs.View.{Sight, with_faces, partly, View}
-use Rattle.rc_play_model.specs.Tally.{Ask}
+use Rattle.rc_play_spec.specs.Control.{Frame, Control}
+use Rattle.rc_play_spec.specs.View.{Sight, with_faces, partly, View}
+use Rattle.rc_play_spec.specs.Tally.{Ask}
 
 -- each place that is known, from one place on, with the number that is known of it, and behind them the number of places
 abbrev pub known_fed : ℕ → List (Option ℕ) → List (List ℕ)

@@ -5,9 +5,9 @@ use Rattle.std.specs.Bool.{beq}
 use Rattle.std.specs.Option.{option_eq}
 use Rattle.std.specs.Ordering.{int_eq}
 use lib.Pointwise.{pointwise}
-use Rattle.rc_play_model.specs.Control.{Frame, Control}
-use Rattle.rc_play_model.specs.View.{Sight, with_faces, partly, View}
-use Rattle.rc_play_model.specs.Tally.{Ask}
+use Rattle.rc_play_spec.specs.Control.{Frame, Control}
+use Rattle.rc_play_spec.specs.View.{Sight, with_faces, partly, View}
+use Rattle.rc_play_spec.specs.Tally.{Ask}
 use Rattle.rc_redraw.specs.Asking.{Key}
 
 abbrev pub same_frame : Frame → Frame → Bool

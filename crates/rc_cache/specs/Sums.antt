@@ -1,7 +1,7 @@
 -- Numbers of looks, hits and keeps: of calls, of a lane, and of all lanes.
 use Rattle.std.specs.Prelude.{ℕ, ◌+◌, List, map}
 use Rattle.std.specs.List.{sum_by}
-use Rattle.rc_model.specs.Numbers.{below}
+use Rattle.rc_base.specs.Numbers.{below}
 use Rattle.rc_redraw.specs.Counts.{Call, looked, kept, one_if}
 
 abbrev pub look_one : Call → ℕ

@@ -1,8 +1,8 @@
 //! The book.
 ghost use Rattle.std.specs.Prelude.{◌≡◌, ◌+◌, ◌^◌, ◌<◌, ◌≤◌, [], map, true, IfOk, OnOk, OnErr};
 ghost use Rattle.std.specs.List.{AllByRecursion};
-ghost use Rattle.rc_model.specs.Limits.{most_entries, most_workers};
-ghost use Rattle.rc_play_model.specs.Tally.{tally as tally_of};
+ghost use Rattle.rc_base.specs.Limits.{most_entries, most_workers};
+ghost use Rattle.rc_play_spec.specs.Tally.{tally as tally_of};
 ghost use Rattle.rc_redraw.specs.Asking.{key_seen};
 ghost use Rattle.rc_redraw.specs.Counts.{looked, kept};
 ghost use Rattle.rc_redraw.specs.Reply.{IfHit, is_hit as is_hit_of};

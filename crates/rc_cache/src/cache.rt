@@ -1,8 +1,8 @@
 //! What is done to the cache.
 ghost use Rattle.std.specs.Prelude.{◌≡◌, map, IfOk, OnOk, OnErr};
 ghost use Rattle.std.specs.List.{AllByRecursion};
-ghost use Rattle.rc_play_model.specs.About.{About};
-ghost use Rattle.rc_play_model.specs.Tally.{tally as tally_of};
+ghost use Rattle.rc_play_spec.specs.About.{About};
+ghost use Rattle.rc_play_spec.specs.Tally.{tally as tally_of};
 ghost use Rattle.rc_redraw.specs.Counts.{looked, kept};
 ghost use Rattle.rc_redraw.specs.Reply.{IfHit, is_hit};
 ghost use Rattle.rc_cache.specs.Replay.{is_among, after};

@@ -1,6 +1,6 @@
 //! The name of a book, which its lanes carry too.
 ghost use Rattle.std.specs.Prelude.{◌≡◌, ℕ};
-ghost use Rattle.rc_play_model.specs.About.{About};
+ghost use Rattle.rc_play_spec.specs.About.{About};
 ghost use Rattle.rc_cache.specs.Naming.{no_about};
 
 use std::marker::{Brand, PhantomData};

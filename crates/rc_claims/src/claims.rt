@@ -1,8 +1,8 @@
 //! The counter of claims, and the passes of those who claim.
 ghost use Rattle.std.specs.Prelude.{◌≡◌, ◌≤◌, ◌<◌, ◌+◌, ℕ, [], length, map, All, IfSome, IfNone, IfOk, drop, take};
 ghost use Rattle.std.specs.List.Sorted.{IsPermutation};
-ghost use Rattle.rc_model.specs.Numbers.{below};
-ghost use Rattle.rc_model.specs.Limits.{most_matches, most_workers};
+ghost use Rattle.rc_base.specs.Numbers.{below};
+ghost use Rattle.rc_base.specs.Limits.{most_matches, most_workers};
 ghost use Rattle.rc_claims.specs.Claims.{fresh, joined, with_number};
 
 use crate::views::{Draws, EachOnce, GivesOne, Limits, PassView, TakesIn};
@@ -27,7 +27,7 @@ impl Model for Claims {
     ghost coded = { claims_coded };
 
     ghost use Rattle.std.specs.Prelude.{◌≡◌, ◌≤◌};
-    ghost use Rattle.rc_model.specs.Limits.{most_matches, most_workers};
+    ghost use Rattle.rc_base.specs.Limits.{most_matches, most_workers};
 
     ghost view = { λ c. record {
       table = c.table.shared.table_id;

@@ -21,7 +21,7 @@ pub(crate) struct PassView {
 
 impl TableRule<(), PassView, Limits> for EachOnce {
     ghost use Rattle.std.specs.Prelude.{[]};
-    ghost use Rattle.rc_model.specs.Numbers.{below};
+    ghost use Rattle.rc_base.specs.Numbers.{below};
     ghost use Rattle.rc_claims.specs.Rule.{pass_view, IsKept};
 
     ghost holds = { IsKept };

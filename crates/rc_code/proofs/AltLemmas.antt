@@ -1,7 +1,7 @@
 -- The code of alternatives, one after the other.
 use Rattle.std.proofs.Common.{◌≡◌, ℕ, ◌+◌, ◌-◌, ◌<◌, ◌≤◌, List, [], ◌∷◌, ◌++◌, length, get_or, drop, map, refl, sym, ap, ap₂, ◌∙◌, arith, append_assoc}
 use Rattle.std.proofs.lemmas.List.{drop_more}
-use Rattle.rc_play_model.specs.Menu.{effects_of}
+use Rattle.rc_play_spec.specs.Menu.{effects_of}
 use Rattle.rc_ast.specs.declared.items.Alt.{Alt}
 use Rattle.rc_ast.specs.Items.{alt_seen, alts_seen}
 use Rattle.rc_code.specs.Instruction.{Block as PureBlock, Instruction as PureInstruction}

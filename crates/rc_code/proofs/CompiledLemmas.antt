@@ -2,10 +2,10 @@
 use Rattle.std.proofs.Common.{◌≡◌, ℕ, ◌+◌, List, [], ◌∷◌, ◌++◌, length, drop, slice_get, Some, refl, sym, ap, ap₂, ◌∙◌, subst, append_assoc, append-nil, length-append, arith}
 use Rattle.std.specs.List.{AllZip, range_with_len}
 use Rattle.std.proofs.lemmas.List.{take_at, drop_at}
-use Rattle.rc_sheet_model.specs.Sheet.{Effect, move, move_all, remember, forget, shuffle, set_to, increase, decrease, when, repeat, for_each, next_is, turn_round, peek, Effects, no_effect, effect, Alt, do_alt, if_alt, any_alt, SheetItem, do_item, stage, choice, SheetItems, no_item, item, Sheet}
-use Rattle.rc_model.specs.Numbers.{below}
-use Rattle.rc_sheet_model.specs.Mentions.{sites_in, sites_in_item}
-use Rattle.rc_play_model.specs.Menu.{effects_of}
+use Rattle.rc_sheet_spec.specs.Sheet.{Effect, move, move_all, remember, forget, shuffle, set_to, increase, decrease, when, repeat, for_each, next_is, turn_round, peek, Effects, no_effect, effect, Alt, do_alt, if_alt, any_alt, SheetItem, do_item, stage, choice, SheetItems, no_item, item, Sheet}
+use Rattle.rc_base.specs.Numbers.{below}
+use Rattle.rc_sheet_spec.specs.Mentions.{sites_in, sites_in_item}
+use Rattle.rc_play_spec.specs.Menu.{effects_of}
 use Rattle.rc_code.specs.Instruction.{Instruction, if_true, so_often, one_by_one, end_body, SitePlace, Code}
 use Rattle.rc_code.specs.Meaning.{effects_in, items_in}
 use Rattle.rc_code.specs.Stands.{EffectStands, EffectsStand, AltStands, AltsStand, ItemStands, ItemsStand, StandsFor}

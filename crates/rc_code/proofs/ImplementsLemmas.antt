@@ -2,13 +2,13 @@
 use Rattle.std.proofs.Common.{◌≡◌, ℕ, zero, suc, ◌+◌, ◌≤◌, ◌==◌, List, [], ◌∷◌, ◌++◌, length, take, drop, slice_get, Some, inl, refl, sym, ap, ◌∙◌, subst, append_assoc, append-nil, length-append, arith}
 use Rattle.std.proofs.lemmas.List.{take_at, drop_at}
 use Rattle.std.proofs.lemmas.Bool.{eq-eqb, cond-true}
-use Rattle.rc_sheet_model.specs.Sheet.{Class, game_class, player_class, team_class, Test, Effect, move, move_all, remember, forget, shuffle, set_to, increase, decrease, when, repeat, for_each, next_is, turn_round, peek, Effects, no_effect, effect, Alt, do_alt, if_alt, any_alt, SheetItem, do_item, stage, choice, SheetItems, no_item, item, Sheet}
-use Rattle.rc_sheet_model.specs.Lists.{item_list}
-use Rattle.rc_sheet_model.specs.WellFormed.{Around, outside, in_stage, AreEffects, IsItem, AreItems, IsWellFormed}
-use Rattle.rc_play_model.specs.Menu.{alts_at, alt_in, effects_of}
-use Rattle.rc_play_model.specs.Step.{Stage, Part, todo, round, turn, todos}
-use Rattle.rc_play_model.specs.Decision.{left_in, left_in_item}
-use Rattle.rc_play_model.proofs.SiteLemmas.{IsIn, IsIn-left, IsIn-right, only_one, times, times-once, count_items, first_alts, alts_at_left}
+use Rattle.rc_sheet_spec.specs.Sheet.{Class, game_class, player_class, team_class, Test, Effect, move, move_all, remember, forget, shuffle, set_to, increase, decrease, when, repeat, for_each, next_is, turn_round, peek, Effects, no_effect, effect, Alt, do_alt, if_alt, any_alt, SheetItem, do_item, stage, choice, SheetItems, no_item, item, Sheet}
+use Rattle.rc_sheet_spec.specs.Lists.{item_list}
+use Rattle.rc_sheet_spec.specs.WellFormed.{Around, outside, in_stage, AreEffects, IsItem, AreItems, IsWellFormed}
+use Rattle.rc_play_spec.specs.Menu.{alts_at, alt_in, effects_of}
+use Rattle.rc_play_spec.specs.Step.{Stage, Part, todo, round, turn, todos}
+use Rattle.rc_play_spec.specs.Decision.{left_in, left_in_item}
+use Rattle.rc_play_spec.proofs.SiteLemmas.{IsIn, IsIn-left, IsIn-right, only_one, times, times-once, count_items, first_alts, alts_at_left}
 use Rattle.rc_code.specs.Instruction.{Block, Instruction, simple, if_true, so_often, one_by_one, do_all, begin_stage, offer, end_body, SitePlace, Code}
 use Rattle.rc_code.specs.Meaning.{effects_in, block_in}
 use Rattle.rc_code.specs.Stands.{EffectStands, EffectsStand, AltStands, AltsStand, ItemStands, ItemsStand, StandsFor}

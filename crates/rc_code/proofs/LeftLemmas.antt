@@ -2,10 +2,10 @@
 use Rattle.std.proofs.Common.{◌≡◌, ℕ, ◌+◌, true, false, List, [], ◌∷◌, ◌++◌, drop, take, reverse, slice_get, Some, ap, ◌∙◌}
 use Rattle.std.proofs.lemmas.List.{drop_more, drop-drop, reverse-append}
 use Rattle.std.proofs.lemmas.Option.{slice_get_within, get_or_from_slice_get}
-use Rattle.rc_sheet_model.specs.Sheet.{Class, Test, Alt, SheetItem, SheetItems, do_item, stage, choice}
-use Rattle.rc_sheet_model.specs.Lists.{item_list}
-use Rattle.rc_play_model.specs.Step.{Part, todo, round, turn, todos}
-use Rattle.rc_play_model.specs.Path.{Path}
+use Rattle.rc_sheet_spec.specs.Sheet.{Class, Test, Alt, SheetItem, SheetItems, do_item, stage, choice}
+use Rattle.rc_sheet_spec.specs.Lists.{item_list}
+use Rattle.rc_play_spec.specs.Step.{Part, todo, round, turn, todos}
+use Rattle.rc_play_spec.specs.Path.{Path}
 use Rattle.rc_code.specs.Instruction.{Block, Instruction, do_all, begin_stage, offer}
 use Rattle.rc_code.specs.Meaning.{effects_in, items_in, items_from, first_stage, behind_stage, stage_at, behind_at, left_behind, left_by, left_in}
 use Rattle.rc_code.proofs.MeaningLemmas.{items_do, items_stage, items_choice}

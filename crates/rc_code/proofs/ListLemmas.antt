@@ -1,7 +1,7 @@
 -- Lists of instructions: code put behind others, and the place that was held for an instruction before it.
 use Rattle.std.proofs.Common.{◌≡◌, ℕ, zero, suc, ◌+◌, ◌-◌, List, [], ◌∷◌, ◌++◌, length, slice_set, refl, sym, ap, ap₂, ◌∙◌, append_assoc, arith}
 use Rattle.std.proofs.lemmas.List.{length-map, length-append}
-use Rattle.rc_sheet_model.specs.Sheet.{Alt}
+use Rattle.rc_sheet_spec.specs.Sheet.{Alt}
 use Rattle.rc_code.specs.Instruction.{Block, Instruction as PureInstruction, offer, end_body}
 use Rattle.rc_code.specs.declared.code.Instruction.{Instruction}
 use Rattle.rc_code.specs.Seen.{instruction_seen, list_seen}

@@ -1,11 +1,11 @@
 -- What code says, one instruction after the other.
 use Rattle.std.proofs.Common.{◌≡◌, ℕ, zero, suc, ◌≤◌, List, [], ◌∷◌, length, take, drop, refl, ap, ◌∙◌, subst, arith}
 use Rattle.std.proofs.lemmas.List.{length-take, length-drop}
-use Rattle.rc_sheet_model.specs.Sheet.{Effects, no_effect, effect, when, repeat, for_each, do_item, stage, choice, item, Sheet}
-use Rattle.rc_sheet_model.specs.WellFormed.{Around, AreEffects}
-use Rattle.rc_play_model.specs.About.{About}
-use Rattle.rc_play_model.specs.Scene.{Vars}
-use Rattle.rc_play_model.specs.Effects.{Dealing, Point, does}
+use Rattle.rc_sheet_spec.specs.Sheet.{Effects, no_effect, effect, when, repeat, for_each, do_item, stage, choice, item, Sheet}
+use Rattle.rc_sheet_spec.specs.WellFormed.{Around, AreEffects}
+use Rattle.rc_play_spec.specs.About.{About}
+use Rattle.rc_play_spec.specs.Scene.{Vars}
+use Rattle.rc_play_spec.specs.Effects.{Dealing, Point, does}
 use Rattle.rc_code.specs.Instruction.{Instruction, simple, if_true, so_often, one_by_one, do_all, begin_stage, offer, end_body}
 use Rattle.rc_code.specs.Meaning.{effects_by, effects_in, first_effects, passed_over, items_by, items_in}
 

@@ -3,16 +3,16 @@ use Rattle.std.proofs.Common.{◌≡◌, ℕ, zero, suc, ◌+◌, ◌<◌, ◌�
 use Rattle.std.specs.List.{range_with_len}
 use Rattle.std.proofs.lemmas.List.{drop_at, drop-drop, reverse-append, map-append}
 use Rattle.std.proofs.lemmas.Bool.{eq-eqb, cond-true}
-use Rattle.rc_sheet_model.specs.Sheet.{Alt, SheetItem, do_item, stage, choice, SheetItems, no_item, item, Sheet}
-use Rattle.rc_sheet_model.specs.Lists.{item_list}
-use Rattle.rc_sheet_model.specs.Mentions.{sites_in, sites_in_item}
-use Rattle.rc_sheet_model.specs.WellFormed.{IsWellFormed}
-use Rattle.rc_play_model.specs.Menu.{alts_at}
-use Rattle.rc_play_model.specs.Step.{Stage, Part, todo, round, turn, todos}
-use Rattle.rc_play_model.specs.Decision.{left_in, left_in_item, left_at}
-use Rattle.rc_play_model.specs.Path.{item_depth, items_depth}
-use Rattle.rc_play_model.proofs.SiteLemmas.{IsIn, IsIn-left, IsIn-right, only_one, times, times-once, count_items, first_alts, alts_at_left}
-use Rattle.rc_play_model.proofs.DepthLemmas.{few_stages}
+use Rattle.rc_sheet_spec.specs.Sheet.{Alt, SheetItem, do_item, stage, choice, SheetItems, no_item, item, Sheet}
+use Rattle.rc_sheet_spec.specs.Lists.{item_list}
+use Rattle.rc_sheet_spec.specs.Mentions.{sites_in, sites_in_item}
+use Rattle.rc_sheet_spec.specs.WellFormed.{IsWellFormed}
+use Rattle.rc_play_spec.specs.Menu.{alts_at}
+use Rattle.rc_play_spec.specs.Step.{Stage, Part, todo, round, turn, todos}
+use Rattle.rc_play_spec.specs.Decision.{left_in, left_in_item, left_at}
+use Rattle.rc_play_spec.specs.Path.{item_depth, items_depth}
+use Rattle.rc_play_spec.proofs.SiteLemmas.{IsIn, IsIn-left, IsIn-right, only_one, times, times-once, count_items, first_alts, alts_at_left}
+use Rattle.rc_play_spec.proofs.DepthLemmas.{few_stages}
 use Rattle.rc_code.specs.Instruction.{Block, Instruction, begin_stage, offer, end_body, SitePlace, Code}
 use Rattle.rc_code.specs.Meaning.{items_in, items_from, first_stage, behind_stage, stage_at, behind_at, left_behind}
 use Rattle.rc_code.specs.Meaning.{left_in as left_in_code}

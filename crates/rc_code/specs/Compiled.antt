@@ -1,7 +1,7 @@
 -- The code that is made of a tree.
 use Rattle.std.specs.Prelude.{ℕ, ◌+◌, List, [], ◌∷◌, ◌++◌, length}
-use Rattle.rc_sheet_model.specs.Sheet.{Effect, move, move_all, remember, forget, shuffle, set_to, increase, decrease, when, repeat, for_each, next_is, turn_round, peek, Effects, no_effect, effect, Alt, SheetItem, do_item, stage, choice, SheetItems, no_item, item}
-use Rattle.rc_play_model.specs.Menu.{effects_of}
+use Rattle.rc_sheet_spec.specs.Sheet.{Effect, move, move_all, remember, forget, shuffle, set_to, increase, decrease, when, repeat, for_each, next_is, turn_round, peek, Effects, no_effect, effect, Alt, SheetItem, do_item, stage, choice, SheetItems, no_item, item}
+use Rattle.rc_play_spec.specs.Menu.{effects_of}
 use Rattle.rc_code.specs.Instruction.{Block, Instruction, simple, if_true, so_often, one_by_one, do_all, begin_stage, offer, end_body, SitePlace}
 
 abbrev mutual

@@ -1,10 +1,10 @@
 -- Code that implements a sheet, and the places of choices in it: what a machine that runs on code needs.
 use Rattle.std.specs.Prelude.{◌≡◌, ℕ, ◌+◌, ◌≤◌, false, List, [], ◌∷◌, length, take, drop, slice_get, Some}
-use Rattle.rc_sheet_model.specs.Sheet.{Class, Test, Effect, move, move_all, remember, forget, shuffle, set_to, increase, decrease, when, repeat, for_each, next_is, turn_round, peek, Alt, Sheet}
-use Rattle.rc_sheet_model.specs.WellFormed.{Around, IsTest, AreEffects, AreAlts}
-use Rattle.rc_play_model.specs.Menu.{alts_at, alt_in, effects_of}
-use Rattle.rc_play_model.specs.Decision.{left_at}
-use Rattle.rc_play_model.specs.Path.{Path}
+use Rattle.rc_sheet_spec.specs.Sheet.{Class, Test, Effect, move, move_all, remember, forget, shuffle, set_to, increase, decrease, when, repeat, for_each, next_is, turn_round, peek, Alt, Sheet}
+use Rattle.rc_sheet_spec.specs.WellFormed.{Around, IsTest, AreEffects, AreAlts}
+use Rattle.rc_play_spec.specs.Menu.{alts_at, alt_in, effects_of}
+use Rattle.rc_play_spec.specs.Decision.{left_at}
+use Rattle.rc_play_spec.specs.Path.{Path}
 use Rattle.rc_code.specs.Instruction.{Block, Instruction, simple, if_true, so_often, one_by_one, do_all, begin_stage, offer, end_body, SitePlace, Code}
 use Rattle.rc_code.specs.Meaning.{effects_in, items_in, left_in, block_in}
 

@@ -1,12 +1,12 @@
 -- Statements of laws of code.
 use Rattle.std.specs.Prelude.{◌≡◌, ℕ, ◌<◌, List, [], ◌∷◌, length, drop, false}
-use Rattle.rc_sheet_model.specs.Sheet.{Effects, SheetItems, Sheet}
-use Rattle.rc_sheet_model.specs.Mentions.{sites_in}
-use Rattle.rc_sheet_model.specs.WellFormed.{IsWellFormed}
-use Rattle.rc_play_model.specs.About.{About}
-use Rattle.rc_play_model.specs.Scene.{Vars}
-use Rattle.rc_play_model.specs.Effects.{Dealing, Point, does}
-use Rattle.rc_play_model.specs.Path.{Path}
+use Rattle.rc_sheet_spec.specs.Sheet.{Effects, SheetItems, Sheet}
+use Rattle.rc_sheet_spec.specs.Mentions.{sites_in}
+use Rattle.rc_sheet_spec.specs.WellFormed.{IsWellFormed}
+use Rattle.rc_play_spec.specs.About.{About}
+use Rattle.rc_play_spec.specs.Scene.{Vars}
+use Rattle.rc_play_spec.specs.Effects.{Dealing, Point, does}
+use Rattle.rc_play_spec.specs.Path.{Path}
 use Rattle.rc_code.specs.Instruction.{Instruction, SitePlace, Code}
 use Rattle.rc_code.specs.Meaning.{effects_in, first_effects, passed_over, items_in, items_from, left_in}
 use Rattle.rc_code.specs.Stands.{EffectsStand, ItemsStand, StandsFor}

@@ -1,10 +1,10 @@
 -- What code says: which effects and items stand in it, and what is left to run at a place of it. Every list of instructions says
 -- something, whether or not it was compiled.
 use Rattle.std.specs.Prelude.{ℕ, zero, suc, Bool, true, false, List, [], ◌∷◌, ◌++◌, length, take, drop, reverse, Option, Some, None}
-use Rattle.rc_sheet_model.specs.Sheet.{game_class, game, eq_who, Effects, no_effect, effect, when, repeat, for_each, do_item, stage, choice, SheetItem, SheetItems, no_item, item}
-use Rattle.rc_sheet_model.specs.Lists.{item_list}
-use Rattle.rc_play_model.specs.Step.{Stage, Part, round, turn, todos}
-use Rattle.rc_play_model.specs.Path.{Path}
+use Rattle.rc_sheet_spec.specs.Sheet.{game_class, game, eq_who, Effects, no_effect, effect, when, repeat, for_each, do_item, stage, choice, SheetItem, SheetItems, no_item, item}
+use Rattle.rc_sheet_spec.specs.Lists.{item_list}
+use Rattle.rc_play_spec.specs.Step.{Stage, Part, round, turn, todos}
+use Rattle.rc_play_spec.specs.Path.{Path}
 use Rattle.rc_code.specs.Instruction.{Block, Instruction, simple, if_true, so_often, one_by_one, do_all, begin_stage, offer, end_body}
 
 -- The effects that so many steps find in a list; as many steps as it has instructions find all.

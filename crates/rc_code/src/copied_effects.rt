@@ -3,8 +3,8 @@ ghost use Rattle.std.specs.Prelude.{◌≡◌, map, IfOk};
 ghost use Rattle.rc_ast.specs.Effects.{effect_seen};
 ghost use Rattle.rc_ast.specs.Items.{alt_seen};
 
+use crate::Offer;
 use crate::copies::{boxed_test, copy_card, copy_coll, copy_domain, copy_int, copy_test};
-use rc_asked::Offer;
 use rc_ast::{Alt, Effect};
 use rc_deck::Memory;
 use std::alloc::Global;

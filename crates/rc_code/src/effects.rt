@@ -1,16 +1,16 @@
 //! Code of effects.
 ghost use Rattle.std.specs.Prelude.{◌≡◌, ◌<◌, ◌++◌, ◌∷◌, [], length, slice_set, OnOk, IfOk};
-ghost use Rattle.rc_sheet_model.specs.Sheet.{when, repeat as repeat_of, for_each as for_each_of};
+ghost use Rattle.rc_sheet_spec.specs.Sheet.{when, repeat as repeat_of, for_each as for_each_of};
 ghost use Rattle.rc_ast.specs.Expressions.{int_seen, test_seen, domain_seen};
 ghost use Rattle.rc_ast.specs.Effects.{effect_seen, effects_seen};
 ghost use Rattle.rc_code.specs.Instruction.{simple, end_body};
 ghost use Rattle.rc_code.specs.Compiled.{effect_code, effects_code};
 ghost use Rattle.rc_code.specs.Seen.{instruction_seen, list_seen};
 
+use crate::CompiledTest;
 use crate::code::Instruction;
 use crate::copied_effects::copy_effect;
 use crate::copies::{copy_domain, copy_int, copy_test};
-use rc_asked::CompiledTest;
 use rc_ast::{Domain, Effect, IntExpr, Test};
 use rc_deck::Memory;
 use std::alloc::Global;

@@ -1,7 +1,7 @@
 //! Code of items, and the places of the choices in it.
 ghost use Rattle.std.specs.Prelude.{◌≡◌, ◌≤◌, ◌<◌, ◌+◌, ◌-◌, [], ◌∷◌, ◌++◌, length, map, OnOk, IfOk};
-ghost use Rattle.rc_sheet_model.specs.Sheet.{do_item, stage as stage_of, choice as choice_of};
-ghost use Rattle.rc_play_model.specs.Menu.{effects_of};
+ghost use Rattle.rc_sheet_spec.specs.Sheet.{do_item, stage as stage_of, choice as choice_of};
+ghost use Rattle.rc_play_spec.specs.Menu.{effects_of};
 ghost use Rattle.rc_ast.specs.Expressions.{test_seen};
 ghost use Rattle.rc_ast.specs.Effects.{effects_seen};
 ghost use Rattle.rc_ast.specs.Items.{alt_seen, alts_seen, item_seen, items_seen};
@@ -9,11 +9,11 @@ ghost use Rattle.rc_code.specs.Instruction.{end_body};
 ghost use Rattle.rc_code.specs.Compiled.{effects_code, alts_code, blocks_from, item_code, items_code, item_sites, items_sites};
 ghost use Rattle.rc_code.specs.Seen.{block_seen, list_seen, place_seen};
 
+use crate::CompiledTest;
 use crate::code::{Block, Instruction, SitePlace};
 use crate::copied_effects::copy_offers;
 use crate::copies::copy_test;
 use crate::effects::{push, push_effects, push_inside, write};
-use rc_asked::CompiledTest;
 use rc_ast::{Alt, Class, Effect, SheetItem, Test};
 use rc_deck::Memory;
 use std::alloc::Global;

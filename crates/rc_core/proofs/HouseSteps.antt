@@ -4,11 +4,11 @@ use Rattle.std.specs.Prelude.{IfSome}
 use Rattle.std.proofs.lemmas.List.{map-set}
 use Rattle.std.proofs.lemmas.Option.{slice_get_read}
 use Rattle.std.proofs.lemmas.Result.{on_ok_weaker, on_err_weaker}
-use Rattle.rc_sheet_model.specs.Sight.{IsInSight}
-use Rattle.rc_sheet_model.specs.WellFormed.{IsWellFormed}
-use Rattle.rc_play_model.specs.Shape.{shape_of}
-use Rattle.rc_play_model.specs.About.{About}
-use Rattle.rc_play_model.specs.Plan.{Plan}
+use Rattle.rc_sheet_spec.specs.Sight.{IsInSight}
+use Rattle.rc_sheet_spec.specs.WellFormed.{IsWellFormed}
+use Rattle.rc_play_spec.specs.Shape.{shape_of}
+use Rattle.rc_play_spec.specs.About.{About}
+use Rattle.rc_play_spec.specs.Plan.{Plan}
 use Rattle.rc_rules.specs.Plan.{plan_seen}
 use Rattle.rc_redraw.specs.Asking.{Key}
 use Rattle.rc_flat.specs.Machine.{Machine}

@@ -1,6 +1,6 @@
 //! The house.
 ghost use Rattle.std.specs.Prelude.{◌≡◌, ◌<◌, ◌≤◌, ◌^◌, length, map, slice_get, IfSome, IfOk, OnOk, OnErr};
-ghost use Rattle.rc_model.specs.Numbers.{below};
+ghost use Rattle.rc_base.specs.Numbers.{below};
 ghost use Rattle.rc_code.specs.Seen.{code_seen};
 ghost use Rattle.rc_code.specs.Stands.{StandsFor};
 ghost use Rattle.rc_rules.specs.Plan.{plan_seen, IsPlanFor};

@@ -1,8 +1,8 @@
 //! What matches do with the entries that they share.
 ghost use Rattle.std.specs.Prelude.{◌≡◌, ◌≢◌, ◌<◌, ◌≤◌, ℕ, [], ◌∷◌, take, vec_len, vec_capacity, OnOk, OnErr};
 ghost use Rattle.std.specs.List.{AllByRecursion};
-ghost use Rattle.rc_play_model.specs.About.{About};
-ghost use Rattle.rc_play_model.specs.Strategy.{menu_size};
+ghost use Rattle.rc_play_spec.specs.About.{About};
+ghost use Rattle.rc_play_spec.specs.Strategy.{menu_size};
 ghost use Rattle.rc_redraw.specs.Asking.{key_seen};
 ghost use Rattle.rc_redraw.specs.Counts.{kept};
 ghost use Rattle.rc_redraw.specs.Need.{Need};
@@ -15,7 +15,7 @@ use crate::entries::{put_in_front, take_entry};
 use crate::waiting::{make_ready, miss, release};
 use rc_deck::Memory;
 use rc_match::Phase;
-use rc_play_model::tallies_are_bounded;
+use rc_play_spec::tallies_are_bounded;
 use rc_redraw::{Entry, Key};
 use rc_rollout::{asked_key, first_largest};
 use std::alloc::Global;

@@ -1,7 +1,7 @@
 -- A face with each face of some branches.
 use Rattle.std.proofs.Common.{◌≡◌, ℕ, ◌+◌, ◌≤◌, ◌<◌, List, [], ◌∷◌, ◌++◌, length, get_or, drop, map, sym, ap, ◌∙◌}
 use Rattle.std.proofs.lemmas.List.{append-nil, map-append, at_drop_more, at_drop_all}
-use Rattle.rc_model.specs.Deck.{Face}
+use Rattle.rc_base.specs.Deck.{Face}
 use Rattle.rc_deck.specs.declared.tree.Branch.{Branch}
 use Rattle.rc_deck.specs.Tree.{branches_in, value_of, inner_of}
 use Rattle.rc_deck.specs.Product.{behind, faces_of_groups, faces_of_branches}

@@ -2,7 +2,7 @@
 use Rattle.std.proofs.Common.{◌≡◌, ℕ, zero, suc, ◌*◌, ◌<◌, List, [], ◌∷◌, ◌++◌, ◌⊎◌, inl, inr, ⊎_elim, length, map, refl, sym, ap, ◌∙◌, subst, arith, append_assoc, length-append}
 use Rattle.std.proofs.lemmas.List.{length-map}
 use Rattle.std.specs.List.{AllZip}
-use Rattle.rc_model.specs.Deck.{Groups, no_group, group, Branches, no_branch, branch, Face, Gives, GivesBranch, IsBefore, AreFaces, face_count, branch_count}
+use Rattle.rc_base.specs.Deck.{Groups, no_group, group, Branches, no_branch, branch, Face, Gives, GivesBranch, IsBefore, AreFaces, face_count, branch_count}
 use Rattle.rc_deck.specs.Product.{joined, faces_of_groups, faces_of_branches}
 use Rattle.rc_deck.proofs.Orders.{In, Contains-from_In, In-from_Contains, In-append_left, In-append_right, In-append_cases, In-map, In-map_source, In-flat_map, In-flat_map_source, Ordered, Ordered-append, Ordered-map, Ordered-weaker, AllPairs-from_Ordered, Ordered-from_AllPairs, Ordered-unique, AllZip-append, AllZip-map, AllZip-map_left, AllZip-flat_map, AllZip-In, AllZip-unique}
 

@@ -3,9 +3,9 @@ use Rattle.std.proofs.Common.{◌≡◌, ℕ, ◌+◌, ◌<◌, List, [], ◌∷
 use Rattle.std.proofs.lemmas.List.{take_more, map-append, length-map, get_or-map}
 use Rattle.std.proofs.lemmas.Int.{ints}
 use Rattle.std.proofs.lemmas.List.Sums.{fold_push}
-use Rattle.rc_model.specs.Deck.{Face, fits_entry}
+use Rattle.rc_base.specs.Deck.{Face, fits_entry}
 use Rattle.rc_deck.specs.declared.scoring.PointEntry.{PointEntry}
-use Rattle.rc_model.specs.Clamp.{IsWithinClamp}
+use Rattle.rc_base.specs.Clamp.{IsWithinClamp}
 use Rattle.rc_deck.specs.Points.{entry_of, points_added}
 
 -- the sum for a face, before it is clamped

@@ -1,7 +1,7 @@
 -- How the model of a tree is made from the tree's vectors.
 use Rattle.std.proofs.Common.{◌≡◌, ℕ, ◌+◌, ◌<◌, List, [], ◌∷◌, length, get_or, drop, refl, sym, ap, ◌∙◌, arith}
 use Rattle.std.proofs.lemmas.List.{at_drop_more}
-use Rattle.rc_model.specs.Deck.{group, branch, no_branch}
+use Rattle.rc_base.specs.Deck.{group, branch, no_branch}
 use Rattle.rc_deck.specs.declared.tree.Group.{Group, Group', out-Group, outs-Group', Row_of-Branch, end_of-Branch, more_of-Branch, items-the_row-Branch, items_shown-the_row-Branch-1}
 use Rattle.rc_deck.specs.declared.tree.Branch.{Branch, Branch', out-Branch, outs-Branch', Row_of-Group, end_of-Group, more_of-Group, items-the_row-Group, items_shown-the_row-Group-0}
 use Rattle.rc_deck.specs.Tree.{attr_of, value_of, branches_of, inner_of, groups_of_row, branches_of_row, groups_in, branches_in}

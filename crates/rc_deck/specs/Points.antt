@@ -1,6 +1,6 @@
 -- Point maps as the model has them.
 use Rattle.std.specs.Prelude.{if◌then◌else◌, List, map, ℤ, pos}
-use Rattle.rc_model.specs.Deck.{Entry, Face, fits_entry}
+use Rattle.rc_base.specs.Deck.{Entry, Face, fits_entry}
 use Rattle.rc_deck.specs.declared.scoring.PointMap.{PointMap}
 use Rattle.rc_deck.specs.declared.scoring.PointEntry.{PointEntry}
 

@@ -1,7 +1,7 @@
 -- The faces of groups by products of lists.
 use Rattle.std.specs.Prelude.{ℕ, List, [], ◌∷◌, ◌++◌, map}
 use Rattle.std.specs.List.{flat_map}
-use Rattle.rc_model.specs.Deck.{Groups, no_group, group, Branches, no_branch, branch, Face}
+use Rattle.rc_base.specs.Deck.{Groups, no_group, group, Branches, no_branch, branch, Face}
 
 -- each of the lists with another one before it
 abbrev pub behind : {X : Type 0} → List X → List (List X) → List (List X)

@@ -1,6 +1,6 @@
 -- Deck trees as the model has them: without the memory that holds them.
 use Rattle.std.specs.Prelude.{ℕ, List, [], ◌∷◌}
-use Rattle.rc_model.specs.Deck.{Groups, no_group, group, Branches, no_branch, branch}
+use Rattle.rc_base.specs.Deck.{Groups, no_group, group, Branches, no_branch, branch}
 use Rattle.rc_deck.specs.declared.tree.DeckTree.{DeckTree}
 use Rattle.rc_deck.specs.declared.tree.Group.{Group, Group', Row_of-Branch, end_of-Branch, more_of-Branch}
 use Rattle.rc_deck.specs.declared.tree.Branch.{Branch, Branch', Row_of-Group, end_of-Group, more_of-Group}

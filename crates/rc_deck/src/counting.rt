@@ -1,6 +1,6 @@
 //! How many faces a deck tree has.
 ghost use Rattle.std.specs.Prelude.{◌≡◌, min, List, length};
-ghost use Rattle.rc_model.specs.Deck.{Face, AreFaces, face_count, branch_count};
+ghost use Rattle.rc_base.specs.Deck.{Face, AreFaces, face_count, branch_count};
 ghost use Rattle.rc_deck.specs.Tree.{groups_of, groups_in, branches_in};
 
 use crate::{Branch, DeckTree, Group};

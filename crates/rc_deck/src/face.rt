@@ -1,6 +1,6 @@
 //! What a card shows.
 ghost use Rattle.std.specs.Prelude.{◌≡◌, ◌≢◌, ◌++◌, ◌∷◌, [], All, IfOk, IsNone, ◌↔◌};
-ghost use Rattle.rc_model.specs.Deck.{value_at};
+ghost use Rattle.rc_base.specs.Deck.{value_at};
 
 use crate::Memory;
 use std::alloc::Global;
@@ -13,7 +13,7 @@ pub struct Face {
 }
 
 impl Model for Face {
-    ghost use Rattle.rc_model.specs.Deck.{Face as Pairs};
+    ghost use Rattle.rc_base.specs.Deck.{Face as Pairs};
 
     ghost Value = { Pairs };
 

@@ -1,6 +1,6 @@
 //! The faces of a deck tree.
 ghost use Rattle.std.specs.Prelude.{◌≡◌, ◌++◌, List, [], ◌∷◌, IfOk, OnOk};
-ghost use Rattle.rc_model.specs.Deck.{Face as Pairs, AreFaces};
+ghost use Rattle.rc_base.specs.Deck.{Face as Pairs, AreFaces};
 ghost use Rattle.rc_deck.specs.Tree.{groups_of, groups_in, attr_of, branches_of, value_of, inner_of};
 ghost use Rattle.rc_deck.specs.Product.{faces_of_groups, faces_of_branches, behind, joined};
 

@@ -1,11 +1,11 @@
 //! What faces are worth.
 ghost use Rattle.std.specs.Prelude.{◌≡◌, ◌==◌, ◌&&◌, All};
-ghost use Rattle.rc_model.specs.Deck.{points_of, fits_entry};
-ghost use Rattle.rc_model.specs.Clamp.{IsWithinClamp};
+ghost use Rattle.rc_base.specs.Deck.{points_of, fits_entry};
+ghost use Rattle.rc_base.specs.Clamp.{IsWithinClamp};
 ghost use Rattle.rc_deck.specs.Points.{entries_of, entry_of, points_added};
 
 use crate::Face;
-use rc_names::limits::LARGEST_NUMBER;
+use rc_base::limits::LARGEST_NUMBER;
 
 /// What faces are worth.
 #[derive(Debug, Drop)]

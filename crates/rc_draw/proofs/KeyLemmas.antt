@@ -2,7 +2,7 @@
 use Rattle.std.proofs.Common.{◌≡◌, ℕ, ◌+◌, ◌*◌, ◌/◌, ◌%◌, ◌^◌, ◌<◌, List, [], ◌∷◌, arith, refl, sym, ap₂, ◌∙◌}
 use Rattle.rand_core.specs.Steps.{u32_at}
 use Rattle.rand_chacha.specs.ChaCha.{key_of}
-use Rattle.rc_play_model.specs.Draws.{key32}
+use Rattle.rc_play_spec.specs.Draws.{key32}
 use Rattle.rc_draw.specs.Neighbours.{neighbour}
 
 low_bytes : (n : ℕ) → n % 256 + n / 256 ^ 1 % 256 * 2 ^ 8 + n / 256 ^ 2 % 256 * 2 ^ 16 + n / 256 ^ 3 % 256 * 2 ^ 24 ≡ n % 4294967296

@@ -1,6 +1,6 @@
 -- What the draws of a seat are for.
 use Rattle.std.specs.Prelude.{ℕ}
-use Rattle.rc_play_model.specs.Draws.{picks, redraws, playout_picks, playout_shuffles, search_redraws, search_shuffles}
+use Rattle.rc_play_spec.specs.Draws.{picks, redraws, playout_picks, playout_shuffles, search_redraws, search_shuffles}
 use Rattle.rc_draw.specs.declared.purpose.Purpose.{Purpose}
 use Rattle.rc_draw.specs.declared.purpose.Purpose.TheVariants.{Pick, Redraw, PlayoutPick, PlayoutShuffle, SearchRedraw, SearchShuffle}
 

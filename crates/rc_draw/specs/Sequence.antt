@@ -1,6 +1,6 @@
 -- Numbered keys, and their first words.
 use Rattle.std.specs.Prelude.{◌≡◌, ℕ, ◌+◌, ◌*◌, ◌%◌, ◌<◌, List, slice_index}
-use Rattle.rc_play_model.specs.Draws.{key32, word_of}
+use Rattle.rc_play_spec.specs.Draws.{key32, word_of}
 
 -- The keys of four numbers whose last has this upper half. Its lower half numbers them.
 pub record Sequence : Type 0 where

@@ -12,17 +12,17 @@ mod word;
 
 ghost use Rattle.std.specs.Prelude.{◌≡◌, ◌<◌, ◌≤◌, length};
 ghost use Rattle.std.specs.List.Sorted.{IsPermutation};
-ghost use Rattle.rc_model.specs.Limits.{most_cards};
-ghost use Rattle.rc_model.specs.Numbers.{below};
-ghost use Rattle.rc_play_model.specs.Draws as draws;
-ghost use Rattle.rc_play_model.specs.Table.{taken};
+ghost use Rattle.rc_base.specs.Limits.{most_cards};
+ghost use Rattle.rc_base.specs.Numbers.{below};
+ghost use Rattle.rc_play_spec.specs.Draws as draws;
+ghost use Rattle.rc_play_spec.specs.Table.{taken};
 
 use crate::word::{WORDS, first_word};
 pub use purpose::Purpose;
 use rand_chacha::ChaCha8Rng;
 use rand_core::SeedableRng;
 use rand_core::utils::NextWord;
-use rc_play_model::keys_pick_and_permute;
+use rc_play_spec::keys_pick_and_permute;
 pub use sequence::KeySequence;
 
 /// The key of four numbers, one behind the other with their lowest bytes first.

@@ -1,6 +1,6 @@
 //! What the draws of a seat are for.
 ghost use Rattle.std.specs.Prelude.{◌≡◌};
-ghost use Rattle.rc_play_model.specs.Draws.{drawn_for};
+ghost use Rattle.rc_play_spec.specs.Draws.{drawn_for};
 ghost use Rattle.rc_draw.specs.Purposes.{purpose_number};
 
 // How many numbers each seat has for what it draws for.

@@ -1,11 +1,11 @@
 //! Picks by keys of four numbers that differ in the lower half of the last.
 ghost use Rattle.std.specs.Prelude.{◌≡◌, ◌<◌};
-ghost use Rattle.rc_play_model.specs.Draws as draws;
+ghost use Rattle.rc_play_spec.specs.Draws as draws;
 ghost use Rattle.rc_draw.specs.Sequence.{AreFirstWords, key_at};
 
 use crate::lanes::first_words;
 use crate::word::WORDS;
-use rc_play_model::keys_pick_and_permute;
+use rc_play_spec::keys_pick_and_permute;
 use std::marker::Model;
 
 /// The keys of four numbers whose last has a given upper half. Its lower half numbers them. The first words of four

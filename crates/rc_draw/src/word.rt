@@ -3,7 +3,7 @@ ghost use Rattle.std.specs.Prelude.{◌≡◌, [], ◌∷◌, ◌+◌};
 ghost use Rattle.rand_core.specs.Steps.{u32_at};
 ghost use Rattle.rand_chacha.specs.Block.{initial_state};
 ghost use Rattle.rand_chacha.specs.ChaCha.{key_of};
-ghost use Rattle.rc_play_model.specs.Draws as draws;
+ghost use Rattle.rc_play_spec.specs.Draws as draws;
 ghost use Rattle.rc_draw.specs.Rows.{state_of};
 
 use crate::rounds::{StateRows, add, column_round, diagonal_round};

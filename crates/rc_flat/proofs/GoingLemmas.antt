@@ -1,20 +1,20 @@
 -- Machines that go from moment to moment.
 use Rattle.std.proofs.Common.{◌≡◌, ℕ, ◌<◌, List, Some, IsSome, length, refl, sym, ap, ◌∙◌, subst}
-use Rattle.rc_play_model.specs.Control.{Control}
-use Rattle.rc_play_model.specs.Table.{Table}
-use Rattle.rc_play_model.specs.About.{About, menu_at}
-use Rattle.rc_play_model.specs.Path.{Path}
-use Rattle.rc_play_model.specs.Step.{Config}
+use Rattle.rc_play_spec.specs.Control.{Control}
+use Rattle.rc_play_spec.specs.Table.{Table}
+use Rattle.rc_play_spec.specs.About.{About, menu_at}
+use Rattle.rc_play_spec.specs.Path.{Path}
+use Rattle.rc_play_spec.specs.Step.{Config}
 use Rattle.rc_table.specs.Laid.{Laid}
 use Rattle.rc_rules.specs.Control.{control_seen, frames_seen}
 use Rattle.rc_rules.specs.Menu.{menu_seen}
 use Rattle.rc_value.specs.Current.{IsCurrent}
 use Rattle.rc_code.specs.Instruction.{Instruction}
-use Rattle.rc_stand.specs.Flat.{config_of, flat_from}
-use Rattle.rc_stand.specs.State.{IsReady, flat_of, config_at}
-use Rattle.rc_stand.specs.Moments.{IsInMatch}
-use Rattle.rc_stand.specs.declared.state.State.{State}
-use Rattle.rc_stand.proofs.MomentLemmas.{in_match}
+use Rattle.rc_flat.specs.Flat.{config_of, flat_from}
+use Rattle.rc_flat.specs.State.{IsReady, flat_of, config_at}
+use Rattle.rc_flat.specs.MarkedMoments.{IsInMatch}
+use Rattle.rc_flat.specs.declared.state.State.{State}
+use Rattle.rc_flat.proofs.MomentLemmas.{in_match}
 use Rattle.rc_flat.specs.Machine.{Machine, KeepsTables}
 use Rattle.rc_flat.specs.Moments.{IsMoment, StaysInMatch, flat_then}
 use Rattle.rc_flat.specs.declared.moments.Moment.{Moment}

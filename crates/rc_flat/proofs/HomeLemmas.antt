@@ -1,27 +1,27 @@
 -- Machines that stand at home.
 use Rattle.std.proofs.Common.{◌≡◌, ℕ, List, Option, Some, sym, ap, ◌∙◌, subst}
 use Rattle.std.specs.Prelude.{unwrap_or}
-use Rattle.rc_sheet_model.specs.WellFormed.{IsWellFormed}
-use Rattle.rc_play_model.specs.Control.{Control}
-use Rattle.rc_play_model.specs.Table.{Table}
-use Rattle.rc_play_model.specs.About.{About, menu_at}
-use Rattle.rc_play_model.specs.Step.{Config}
-use Rattle.rc_play_model.specs.Path.{Path}
+use Rattle.rc_sheet_spec.specs.WellFormed.{IsWellFormed}
+use Rattle.rc_play_spec.specs.Control.{Control}
+use Rattle.rc_play_spec.specs.Table.{Table}
+use Rattle.rc_play_spec.specs.About.{About, menu_at}
+use Rattle.rc_play_spec.specs.Step.{Config}
+use Rattle.rc_play_spec.specs.Path.{Path}
 use Rattle.rc_rules.specs.Control.{control_seen, frames_seen}
 use Rattle.rc_rules.specs.Menu.{menu_seen}
 use Rattle.rc_value.specs.Current.{IsCurrent}
 use Rattle.rc_code.specs.Instruction.{Code, Instruction}
 use Rattle.rc_code.specs.Laws.{SitesArePlaced}
 use Rattle.rc_code.specs.Stands.{StandsFor}
-use Rattle.rc_board.specs.Undo.{Kept, gone_home}
-use Rattle.rc_stand.specs.Flat.{Flat, config_of, flat_from, IsInPlay, IsOffered}
-use Rattle.rc_stand.specs.State.{IsReady, flat_of}
-use Rattle.rc_stand.specs.Moments.{IsInMatch}
+use Rattle.rc_undo.specs.Undo.{Kept, gone_home}
+use Rattle.rc_flat.specs.Flat.{Flat, config_of, flat_from, IsInPlay, IsOffered}
+use Rattle.rc_flat.specs.State.{IsReady, flat_of}
+use Rattle.rc_flat.specs.MarkedMoments.{IsInMatch}
 use Rattle.rc_flat.specs.Machine.{Machine}
 use Rattle.rc_flat.specs.Home.{config_at_home, IsAtSite, IsHome}
-use Rattle.rc_stand.specs.declared.stand.Stand.{Stand}
-use Rattle.rc_stand.specs.declared.state.State.{State}
-use Rattle.rc_stand.proofs.SitePlaceLemmas.{IsPlaceOf, decision_match}
+use Rattle.rc_flat.specs.declared.stand.Stand.{Stand}
+use Rattle.rc_flat.specs.declared.state.State.{State}
+use Rattle.rc_flat.proofs.SitePlaceLemmas.{IsPlaceOf, decision_match}
 
 -- BACK AT HOME
 

@@ -1,15 +1,15 @@
 -- Machines that go back to where they stood.
 use Rattle.std.proofs.Common.{◌≡◌, false, suc, List, [], ◌∷◌, ◌++◌, length, sym, ap, ◌∙◌, subst, append_assoc, length-append, arith}
-use Rattle.rc_play_model.specs.Table.{Table}
-use Rattle.rc_play_model.specs.About.{About}
-use Rattle.rc_play_model.specs.Step.{Config}
+use Rattle.rc_play_spec.specs.Table.{Table}
+use Rattle.rc_play_spec.specs.About.{About}
+use Rattle.rc_play_spec.specs.Step.{Config}
 use Rattle.rc_code.specs.Instruction.{Instruction}
-use Rattle.rc_stand.specs.Flat.{config_of}
+use Rattle.rc_flat.specs.Flat.{config_of}
 use Rattle.rc_flat.specs.Machine.{Machine, tables_of, KeepsTables}
-use Rattle.rc_stand.specs.Moments.{flat_marked, IsInMatch}
+use Rattle.rc_flat.specs.MarkedMoments.{flat_marked, IsInMatch}
 use Rattle.rc_flat.specs.Marks.{IsMark}
-use Rattle.rc_stand.specs.declared.marks.Mark.{Mark}
-use Rattle.rc_stand.proofs.MomentLemmas.{same_marked}
+use Rattle.rc_flat.specs.declared.marks.Mark.{Mark}
+use Rattle.rc_flat.proofs.MomentLemmas.{same_marked}
 
 abbrev rest_of : {X : Type 0} → List X → List X
 rest_of [] = []

@@ -1,17 +1,17 @@
 -- What the items of the menu that a state keeps bind.
 use Rattle.std.proofs.Common.{◌≡◌, ℕ, ◌<◌, List, [], map, length, slice_get, Option, Some, sym, ap, ◌∙◌}
 use Rattle.std.specs.Prelude.{unwrap_or, slice_index_or}
-use Rattle.rc_sheet_model.specs.Sheet.{Alt}
-use Rattle.rc_play_model.specs.About.{About, scene_at}
-use Rattle.rc_play_model.specs.ItemBounds.{bound_of}
-use Rattle.rc_play_model.specs.Menu.{Item as PureItem, alts_at, alt_in, bindings_of, menu_from}
+use Rattle.rc_sheet_spec.specs.Sheet.{Alt}
+use Rattle.rc_play_spec.specs.About.{About, scene_at}
+use Rattle.rc_play_spec.specs.ItemBounds.{bound_of}
+use Rattle.rc_play_spec.specs.Menu.{Item as PureItem, alts_at, alt_in, bindings_of, menu_from}
 use Rattle.rc_rules.specs.Control.{frames_seen}
 use Rattle.rc_rules.specs.declared.menu.Item.{Item}
 use Rattle.rc_rules.specs.Machine.{StopsAtDecision, bounds_here, menu_here}
 use Rattle.rc_code.specs.Instruction.{Block, Instruction, offer}
-use Rattle.rc_stand.specs.State.{IsReady, config_at}
-use Rattle.rc_stand.specs.declared.state.State.{State}
-use Rattle.rc_stand.proofs.KeptLemmas.{item_kept}
+use Rattle.rc_flat.specs.State.{IsReady, config_at}
+use Rattle.rc_flat.specs.declared.state.State.{State}
+use Rattle.rc_flat.proofs.KeptLemmas.{item_kept}
 
 abbrev alts_of : Option Instruction → List Alt
 alts_of (Some (offer site alts blocks inside)) = alts

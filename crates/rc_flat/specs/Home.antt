@@ -1,18 +1,18 @@
 -- Machines that go home, as the definitions of play have them.
 use Rattle.std.specs.Prelude.{◌≡◌, ℕ, Bool, List, [], Option, Some, unwrap_or}
-use Rattle.rc_play_model.specs.Control.{Control}
-use Rattle.rc_play_model.specs.Table.{Table}
-use Rattle.rc_play_model.specs.About.{About, menu_at}
-use Rattle.rc_play_model.specs.Step.{Config}
-use Rattle.rc_play_model.specs.Decision.{at_site}
-use Rattle.rc_play_model.specs.Path.{Path}
+use Rattle.rc_play_spec.specs.Control.{Control}
+use Rattle.rc_play_spec.specs.Table.{Table}
+use Rattle.rc_play_spec.specs.About.{About, menu_at}
+use Rattle.rc_play_spec.specs.Step.{Config}
+use Rattle.rc_play_spec.specs.Decision.{at_site}
+use Rattle.rc_play_spec.specs.Path.{Path}
 use Rattle.rc_rules.specs.Control.{control_seen}
 use Rattle.rc_rules.specs.Machine.{CanDecide}
 use Rattle.rc_rules.specs.Menu.{menu_seen}
 use Rattle.rc_code.specs.Instruction.{Instruction}
-use Rattle.rc_stand.specs.Flat.{config_of, flat_from}
-use Rattle.rc_stand.specs.Moments.{IsInMatch}
-use Rattle.rc_stand.specs.declared.stand.Stand.{Stand}
+use Rattle.rc_flat.specs.Flat.{config_of, flat_from}
+use Rattle.rc_flat.specs.MarkedMoments.{IsInMatch}
+use Rattle.rc_flat.specs.declared.stand.Stand.{Stand}
 
 -- what a match is played by, where it stands, where it stood at home, and whether memory was lacking
 pub record Homing : Type 0 where

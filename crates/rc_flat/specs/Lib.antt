@@ -1,3 +1,8 @@
+pub mod Places
+pub mod Shallow
+pub mod Flat
+pub mod State
+pub mod MarkedMoments
 pub mod Machine
 pub mod Marks
 pub mod Codes

@@ -1,8 +1,8 @@
 -- Flat machines as the definitions of play have them.
 use Rattle.std.specs.Prelude.{◌≡◌, Bool, true, List, ◌∷◌, ◌++◌, Option}
-use Rattle.rc_play_model.specs.Table.{Table}
-use Rattle.rc_play_model.specs.About.{About}
-use Rattle.rc_play_model.specs.Step.{Config}
+use Rattle.rc_play_spec.specs.Table.{Table}
+use Rattle.rc_play_spec.specs.About.{About}
+use Rattle.rc_play_spec.specs.Step.{Config}
 use Rattle.rc_code.specs.Instruction.{Instruction}
 
 -- what a match is played by, its code, where it stands, the tables to which it can go back, the last one first, whether it notes its

@@ -1,11 +1,11 @@
 -- A machine as the definitions of play have it.
 use Rattle.std.specs.Prelude.{◌≡◌, Bool, false, List}
-use Rattle.rc_play_model.specs.About.{About}
+use Rattle.rc_play_spec.specs.About.{About}
 use Rattle.rc_code.specs.Instruction.{Instruction}
 use Rattle.rc_code.specs.Seen.{list_seen}
 use Rattle.rc_code.specs.Implements.{Implements}
-use Rattle.rc_stand.specs.State.{config_at, IsReady}
-use Rattle.rc_stand.specs.declared.state.State.{State}
+use Rattle.rc_flat.specs.State.{config_at, IsReady}
+use Rattle.rc_flat.specs.declared.state.State.{State}
 use Rattle.rc_flat.specs.Machine.{Machine}
 use Rattle.rc_flat.specs.declared.machine.FlatMachine.TheInside.{Inside}
 

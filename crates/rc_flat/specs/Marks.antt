@@ -1,10 +1,10 @@
 -- Marks of machines.
 use Rattle.std.specs.Prelude.{◌≡◌, ◌≤◌, true, length}
-use Rattle.rc_play_model.specs.Step.{Config}
-use Rattle.rc_stand.specs.Flat.{config_of}
+use Rattle.rc_play_spec.specs.Step.{Config}
+use Rattle.rc_flat.specs.Flat.{config_of}
 use Rattle.rc_flat.specs.Machine.{Machine, tables_of}
-use Rattle.rc_stand.specs.Moments.{IsInMatch, flat_marked}
-use Rattle.rc_stand.specs.declared.marks.Mark.{Mark}
+use Rattle.rc_flat.specs.MarkedMoments.{IsInMatch, flat_marked}
+use Rattle.rc_flat.specs.declared.marks.Mark.{Mark}
 
 -- The mark leads a machine that notes its edits back to this configuration: with the table to which it goes back a match goes on where
 -- the mark has it.

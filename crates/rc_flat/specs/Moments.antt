@@ -1,14 +1,14 @@
 -- Moments to which machines go.
 use Rattle.std.specs.Prelude.{◌≡◌, ℕ, List, Some, IsSome}
-use Rattle.rc_play_model.specs.Table.{Table}
-use Rattle.rc_play_model.specs.About.{About, menu_at}
-use Rattle.rc_play_model.specs.Step.{Config}
+use Rattle.rc_play_spec.specs.Table.{Table}
+use Rattle.rc_play_spec.specs.About.{About, menu_at}
+use Rattle.rc_play_spec.specs.Step.{Config}
 use Rattle.rc_rules.specs.Control.{control_seen}
 use Rattle.rc_rules.specs.Menu.{menu_seen}
 use Rattle.rc_value.specs.Current.{IsCurrent}
 use Rattle.rc_code.specs.Instruction.{Instruction}
-use Rattle.rc_stand.specs.Flat.{Flat, config_of, flat_from}
-use Rattle.rc_stand.specs.Moments.{IsInMatch}
+use Rattle.rc_flat.specs.Flat.{Flat, config_of, flat_from}
+use Rattle.rc_flat.specs.MarkedMoments.{IsInMatch}
 use Rattle.rc_flat.specs.Machine.{Machine}
 use Rattle.rc_flat.specs.declared.moments.Moment.{Moment}
 

@@ -1,18 +1,18 @@
 //! The calls of the machine.
 ghost use Rattle.std.specs.Prelude.{◌≡◌, ℕ, ◌<◌, ◌≤◌, ◌++◌, List, true, false, length, Some, is_err, IsSome, IfOk, OnOk, OnErr, IsOk};
-ghost use Rattle.rc_model.specs.Limits.{most_items};
-ghost use Rattle.rc_play_model.specs.Table.{Table as PureTable};
-ghost use Rattle.rc_play_model.specs.About.{menu_at};
-ghost use Rattle.rc_play_model.specs.Step.{Config, goes};
-ghost use Rattle.rc_play_model.specs.Stop.{stop_of};
-ghost use Rattle.rc_play_model.specs.Decision.{choose};
+ghost use Rattle.rc_base.specs.Limits.{most_items};
+ghost use Rattle.rc_play_spec.specs.Table.{Table as PureTable};
+ghost use Rattle.rc_play_spec.specs.About.{menu_at};
+ghost use Rattle.rc_play_spec.specs.Step.{Config, goes};
+ghost use Rattle.rc_play_spec.specs.Stop.{stop_of};
+ghost use Rattle.rc_play_spec.specs.Decision.{choose};
 ghost use Rattle.rc_rules.specs.Bounds.{bounds_seen};
 ghost use Rattle.rc_rules.specs.Control.{control_seen, stop_seen};
 ghost use Rattle.rc_rules.specs.Dealer.{ShuffledBy};
 ghost use Rattle.rc_rules.specs.Machine.{StopsAtDecision, IsWhereItStops, bounds_here, menu_here};
 ghost use Rattle.rc_rules.specs.Menu.{menu_seen};
-ghost use Rattle.rc_stand.specs.Flat.{config_of, flat_from};
-ghost use Rattle.rc_stand.specs.Moments.{IsInMatch};
+ghost use Rattle.rc_flat.specs.Flat.{config_of, flat_from};
+ghost use Rattle.rc_flat.specs.MarkedMoments.{IsInMatch};
 ghost use Rattle.rc_flat.specs.Home.{config_at_home, IsHome};
 ghost use Rattle.rc_flat.specs.Machine.{KeepsTables, tables_of};
 ghost use Rattle.rc_flat.specs.Marks.{IsMark};
@@ -22,12 +22,12 @@ use crate::machine::FlatMachine;
 use crate::naming::bounds_of;
 use crate::steps::one_step;
 use crate::undoing::refill;
+use crate::{Mark, Stand, write_menu};
 use rc_code::Instruction;
 use rc_deck::Memory;
 use rc_menu::copy_menu;
-use rc_play_model::stops_stay;
+use rc_play_spec::stops_stay;
 use rc_rules::{Bounds, Control, Dealer, Items, Machine, Menu, Scores, Stop};
-use rc_stand::{Mark, Stand, write_menu};
 use rc_table::Table;
 
 impl FlatMachine {
@@ -110,7 +110,7 @@ impl Machine for FlatMachine {
 
     ghost spent = { λ m. m.spent };
 
-    #[tactic(auto, using(rc_doing::proofs::ShuffleLemmas::not_shuffled))]
+    #[tactic(auto, using(rc_exec::proofs::ShuffleLemmas::not_shuffled))]
     fn advance<D: Dealer>(&mut self, dealer: &mut D) -> Result<Stop, Memory>
         ensures leads { IfOk result
             (λ stop. stop_of self.old.about (D.dealing dealer.old) (D.state dealer.old) self.old.config
@@ -170,7 +170,7 @@ impl Machine for FlatMachine {
         bounds_of(&self.state, &self.about, &self.code.list, item)
     }
 
-    #[tactic(auto, using(rc_doing::proofs::ShuffleLemmas::not_shuffled))]
+    #[tactic(auto, using(rc_exec::proofs::ShuffleLemmas::not_shuffled))]
     fn apply<D: Dealer>(&mut self, item: u16, dealer: &mut D) -> Result<(), Memory>
         requires decision { self.old.spent ≡ false → StopsAtDecision self.old.about self.old.config }
         requires offered { self.old.spent ≡ false → item < length (menu_here self.old.about self.old.config) }

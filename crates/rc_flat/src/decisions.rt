@@ -1,26 +1,25 @@
 //! Decisions: what a mover may pick, and what follows.
 ghost use Rattle.std.specs.Prelude.{◌≡◌, ℕ, ◌<◌, false, length, map, slice_get, slice_index_or, Some, OnOk, IsOk};
-ghost use Rattle.rc_play_model.specs.Step.{goes};
-ghost use Rattle.rc_play_model.specs.Decision.{choose};
+ghost use Rattle.rc_play_spec.specs.Step.{goes};
+ghost use Rattle.rc_play_spec.specs.Decision.{choose};
 ghost use Rattle.rc_rules.specs.Machine.{StopsAtDecision, menu_here};
 ghost use Rattle.rc_code.specs.Instruction.{offer};
 ghost use Rattle.rc_code.specs.Meaning.{block_in};
 ghost use Rattle.rc_code.specs.Seen.{block_seen, list_seen};
-ghost use Rattle.rc_board.specs.Undo.{Keeps};
+ghost use Rattle.rc_undo.specs.Undo.{Keeps};
 ghost use Rattle.rc_code.specs.Implements.{AreSimple, Implements};
-ghost use Rattle.rc_stand.specs.State.{IsReady, config_at};
+ghost use Rattle.rc_flat.specs.State.{IsReady, config_at};
 ghost use Rattle.rc_rules.specs.Dealer.{ShuffledBy};
 
-use rc_asked::Offer;
-use rc_code::{Block, Instruction};
+use crate::{State, behind, choice_there};
+use rc_code::{Block, Instruction, Offer};
 use rc_deck::Memory;
-use rc_doing::{do_item, front, past};
+use rc_exec::{do_item, front, past};
 use rc_rules::{About, Dealer, Item, Items};
-use rc_stand::{State, behind, choice_there};
-use rc_state::count_decision;
+use rc_value::count_decision;
 
 /// Takes an item of the menu of the decision that is next, and does its effects.
-#[tactic(auto, using(rc_doing::proofs::ShuffleLemmas::not_shuffled))]
+#[tactic(auto, using(rc_exec::proofs::ShuffleLemmas::not_shuffled))]
 pub fn apply<D: Dealer>(
     state: &mut State,
     about: &About,
@@ -55,7 +54,7 @@ pub fn apply<D: Dealer>(
 }
 
 // Takes an item of the menu at the choice that is next, and does its effects.
-#[tactic(auto, using(rc_doing::proofs::ShuffleLemmas::not_shuffled))]
+#[tactic(auto, using(rc_exec::proofs::ShuffleLemmas::not_shuffled))]
 fn take_item<D: Dealer>(
     state: &mut State,
     about: &About,

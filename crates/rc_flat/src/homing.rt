@@ -1,8 +1,8 @@
 //! Machines that go home.
 ghost use Rattle.std.specs.Prelude.{◌≡◌, ◌<◌, true, false, length, Some, is_err, IfOk, OnOk, OnErr, IsOk};
-ghost use Rattle.rc_play_model.specs.Step.{goes};
-ghost use Rattle.rc_play_model.specs.Stop.{stop_of};
-ghost use Rattle.rc_play_model.specs.Decision.{at_site, choose};
+ghost use Rattle.rc_play_spec.specs.Step.{goes};
+ghost use Rattle.rc_play_spec.specs.Stop.{stop_of};
+ghost use Rattle.rc_play_spec.specs.Decision.{at_site, choose};
 ghost use Rattle.rc_rules.specs.Control.{control_seen, stop_seen};
 ghost use Rattle.rc_rules.specs.Dealer.{ShuffledBy};
 ghost use Rattle.rc_rules.specs.Machine.{CanDecide, StopsAtDecision, IsWhereItStops, menu_here};
@@ -10,12 +10,12 @@ ghost use Rattle.rc_code.specs.Seen.{code_seen};
 ghost use Rattle.rc_code.specs.Stands.{StandsFor};
 
 use crate::machine::FlatMachine;
-use rc_board::Board;
+use crate::{Stand, place_of, site_of};
 use rc_code::{Code, sites_are_placed};
 use rc_deck::Memory;
 use rc_rules::{About, Bounds, Control, Dealer, Items, Machine, Menu, Scores, Stop};
-use rc_stand::{Stand, place_of, site_of};
 use rc_table::Table;
+use rc_undo::Board;
 use std::alloc::Global;
 use std::marker::Model;
 use std::sync::Arc;

@@ -1,8 +1,8 @@
 //! The machine.
 
+use crate::State;
 use rc_code::Code;
 use rc_rules::About;
-use rc_stand::State;
 use std::marker::Model;
 use std::sync::Arc;
 

@@ -1,27 +1,26 @@
 //! Machines that are made at the start of a match or at a decision.
 ghost use Rattle.std.specs.Prelude.{◌≡◌, true, false, IfOk};
-ghost use Rattle.rc_play_model.specs.Step.{start};
-ghost use Rattle.rc_play_model.specs.Shape.{shape_of};
-ghost use Rattle.rc_play_model.specs.Decision.{at_site};
-ghost use Rattle.rc_play_model.specs.Table.{opening};
+ghost use Rattle.rc_play_spec.specs.Step.{start};
+ghost use Rattle.rc_play_spec.specs.Shape.{shape_of};
+ghost use Rattle.rc_play_spec.specs.Decision.{at_site};
+ghost use Rattle.rc_play_spec.specs.Table.{opening};
 ghost use Rattle.rc_rules.specs.Control.{control_seen};
 ghost use Rattle.rc_rules.specs.Machine.{CanDecide};
 ghost use Rattle.rc_code.specs.Seen.{list_seen, code_seen};
 ghost use Rattle.rc_code.specs.Stands.{StandsFor};
-ghost use Rattle.rc_stand.specs.Flat.{flat_from, config_of};
-ghost use Rattle.rc_stand.specs.Moments.{IsInMatch};
+ghost use Rattle.rc_flat.specs.Flat.{flat_from, config_of};
+ghost use Rattle.rc_flat.specs.MarkedMoments.{IsInMatch};
 
 use crate::machine::FlatMachine;
 use crate::undoing::refill;
-use rc_board::Board;
+use crate::{ProgramCounter, State, place_of, site_of};
 use rc_code::{Code, sites_are_placed, standing_code_implements};
 use rc_deck::Memory;
 use rc_flow::Checked;
 use rc_rules::{About, Control, Items};
-use rc_stand::{ProgramCounter, State, place_of, site_of};
-use rc_state::new_control;
 use rc_table::{Shape, Table};
-use rc_value::Current;
+use rc_undo::Board;
+use rc_value::{Current, new_control};
 use std::alloc::Global;
 use std::sync::Arc;
 

@@ -1,24 +1,24 @@
 //! Moments at decisions, to which a machine goes as often as that is asked, each with a table of its own.
 ghost use Rattle.std.specs.Prelude.{◌≡◌, ℕ, ◌<◌, false, length, IsSome, Some, IfOk};
-ghost use Rattle.rc_play_model.specs.About.{menu_at};
-ghost use Rattle.rc_play_model.specs.Decision.{at_site};
-ghost use Rattle.rc_play_model.specs.Step.{Config};
+ghost use Rattle.rc_play_spec.specs.About.{menu_at};
+ghost use Rattle.rc_play_spec.specs.Decision.{at_site};
+ghost use Rattle.rc_play_spec.specs.Step.{Config};
 ghost use Rattle.rc_code.specs.Seen.{code_seen};
 ghost use Rattle.rc_code.specs.Stands.{StandsFor};
 ghost use Rattle.rc_rules.specs.Control.{control_seen};
 ghost use Rattle.rc_rules.specs.Machine.{CanDecide};
-ghost use Rattle.rc_stand.specs.Flat.{config_of, flat_from};
-ghost use Rattle.rc_stand.specs.Moments.{IsInMatch};
+ghost use Rattle.rc_flat.specs.Flat.{config_of, flat_from};
+ghost use Rattle.rc_flat.specs.MarkedMoments.{IsInMatch};
 ghost use Rattle.rc_flat.specs.Moments.{IsMoment, StaysInMatch, with_table};
 
 use crate::machine::FlatMachine;
 use crate::undoing::refill;
-use rc_board::Board;
+use crate::{Stand, place_of, site_of, write_control, write_menu};
 use rc_code::{Code, sites_are_placed};
 use rc_deck::Memory;
 use rc_rules::{About, Control, Items};
-use rc_stand::{Stand, place_of, site_of, write_control, write_menu};
 use rc_table::Table;
+use rc_undo::Board;
 use rc_value::Current;
 use std::alloc::Global;
 use std::sync::Arc;

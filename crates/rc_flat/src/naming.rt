@@ -1,23 +1,22 @@
 //! What items bind.
 ghost use Rattle.std.specs.Prelude.{◌≡◌, ◌<◌, [], length, map};
-ghost use Rattle.rc_play_model.specs.About.{scene_at};
-ghost use Rattle.rc_play_model.specs.ItemBounds.{bound_of};
-ghost use Rattle.rc_play_model.specs.Menu.{alt_in, bindings_of};
+ghost use Rattle.rc_play_spec.specs.About.{scene_at};
+ghost use Rattle.rc_play_spec.specs.ItemBounds.{bound_of};
+ghost use Rattle.rc_play_spec.specs.Menu.{alt_in, bindings_of};
 ghost use Rattle.rc_code.specs.Seen.{list_seen};
 ghost use Rattle.rc_code.specs.Implements.{Implements};
 ghost use Rattle.rc_rules.specs.Bounds.{bounds_seen};
 ghost use Rattle.rc_rules.specs.Control.{frames_seen};
 ghost use Rattle.rc_rules.specs.Machine.{StopsAtDecision, bounds_here, menu_here};
-ghost use Rattle.rc_stand.specs.State.{IsReady, config_at};
-ghost use Rattle.rc_state.specs.Bindings.{AreAltsOutside};
+ghost use Rattle.rc_flat.specs.State.{IsReady, config_at};
+ghost use Rattle.rc_value.specs.Bindings.{AreAltsOutside};
 ghost use Rattle.rc_value.specs.Current.{IsCurrent};
 
 use crate::decisions::item_at;
-use rc_asked::Offer;
-use rc_code::Instruction;
+use crate::{State, choice_there};
+use rc_code::{Instruction, Offer};
 use rc_menu::item_bounds;
 use rc_rules::{About, Bounds, Frames, Item};
-use rc_stand::{State, choice_there};
 use rc_table::Table;
 use rc_value::Current;
 

@@ -1,27 +1,25 @@
 //! The steps of a match.
 ghost use Rattle.std.specs.Prelude.{◌≡◌, ◌+◌, ◌<◌, IsSome, None, Some, false, List, slice_get, IfOk, OnOk, IsOk};
-ghost use Rattle.rc_play_model.specs.Owners.{mover};
-ghost use Rattle.rc_play_model.specs.Step.{goes, step};
+ghost use Rattle.rc_play_spec.specs.Owners.{mover};
+ghost use Rattle.rc_play_spec.specs.Step.{goes, step};
 ghost use Rattle.rc_rules.specs.Control.{frames_seen};
 ghost use Rattle.rc_code.specs.Instruction.{Block as PureBlock, do_all, offer};
 ghost use Rattle.rc_code.specs.Seen.{instruction_seen, list_seen};
-ghost use Rattle.rc_board.specs.Undo.{Keeps};
+ghost use Rattle.rc_undo.specs.Undo.{Keeps};
 ghost use Rattle.rc_code.specs.Implements.{Implements};
-ghost use Rattle.rc_stand.specs.State.{KeepsMenu, IsReady, config_at, next_seen, LeadsTo};
+ghost use Rattle.rc_flat.specs.State.{KeepsMenu, IsReady, config_at, next_seen, LeadsTo};
 ghost use Rattle.rc_rules.specs.Dealer.{ShuffledBy};
 
-use rc_asked::Offer;
-use rc_code::Instruction;
+use crate::{State, behind};
+use rc_code::{Instruction, Offer};
 use rc_deck::Memory;
-use rc_doing::{do_block, front, past};
+use rc_exec::{do_block, front, past};
 use rc_menu::fill_offers_by;
 use rc_rules::{About, Dealer, Stop};
-use rc_stand::{State, behind};
-use rc_state::Context;
-use rc_value::Bindings;
+use rc_value::{Bindings, Context};
 
 // Does the effects that are next, so many instructions.
-#[tactic(auto, using(rc_doing::proofs::ShuffleLemmas::not_shuffled))]
+#[tactic(auto, using(rc_exec::proofs::ShuffleLemmas::not_shuffled))]
 fn do_next<D: Dealer>(
     state: &mut State,
     about: &About,
@@ -126,7 +124,7 @@ fn decide(
 }
 
 /// A step. It stops where the step does.
-#[tactic(auto, using(rc_doing::proofs::ShuffleLemmas::not_shuffled))]
+#[tactic(auto, using(rc_exec::proofs::ShuffleLemmas::not_shuffled))]
 pub fn one_step<D: Dealer>(
     state: &mut State,
     about: &About,

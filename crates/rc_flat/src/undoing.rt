@@ -2,13 +2,13 @@
 ghost use Rattle.std.specs.Prelude.{◌≡◌};
 ghost use Rattle.rc_code.specs.Seen.{list_seen};
 ghost use Rattle.rc_code.specs.Implements.{Implements};
-ghost use Rattle.rc_stand.specs.State.{IsReady, flat_of};
-ghost use Rattle.rc_stand.specs.Moments.{IsInMatch};
+ghost use Rattle.rc_flat.specs.State.{IsReady, flat_of};
+ghost use Rattle.rc_flat.specs.MarkedMoments.{IsInMatch};
 
+use crate::{State, choice_there};
 use rc_code::Instruction;
 use rc_menu::fill_offers_by;
 use rc_rules::About;
-use rc_stand::{State, choice_there};
 
 /// Finds anew who is current, and fills the menu anew where a decision is next.
 pub fn refill(state: &mut State, about: &About, code: &[Instruction])

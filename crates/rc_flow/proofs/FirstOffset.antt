@@ -2,8 +2,8 @@
 use Rattle.std.proofs.Common.{◌≡◌, ℕ, ◌≤◌, min, Bool, true, false, not, cond, if◌then◌else◌, List, [], ◌∷◌, map, filter, Option, Some, None, All, ◌⊎◌, inl, inr, refl, ap, sym, ◌∙◌, arith}
 use Rattle.std.specs.List.{Contains}
 use Rattle.std.proofs.lemmas.List.Elements.{All-nil, All-cons, Contains-append_right}
-use Rattle.rc_sheet_model.specs.Sheet.{LocName, Loc, Sheet}
-use Rattle.rc_sheet_model.specs.Sight.{is_in_sight, locs_in_items, unseen_locs, unseen_offsets, IsInSight, IsUnseen}
+use Rattle.rc_sheet_spec.specs.Sheet.{LocName, Loc, Sheet}
+use Rattle.rc_sheet_spec.specs.Sight.{is_in_sight, locs_in_items, unseen_locs, unseen_offsets, IsInSight, IsUnseen}
 use Rattle.rc_flow.specs.Least.{with_offset, least_with}
 
 -- the least of the offset that was found and others

@@ -1,7 +1,7 @@
 -- Going over lists of locations.
 use Rattle.std.proofs.Common.{◌≡◌, ℕ, ◌+◌, ◌<◌, List, [], ◌∷◌, ◌++◌, length, get_or, drop, Option, refl, ap, sym, ◌∙◌}
 use Rattle.std.proofs.lemmas.List.{at_drop_more}
-use Rattle.rc_sheet_model.specs.Sheet.{LocName, Loc}
+use Rattle.rc_sheet_spec.specs.Sheet.{LocName, Loc}
 use Rattle.rc_flow.specs.Least.{with_loc, least_with}
 
 -- one list after the other

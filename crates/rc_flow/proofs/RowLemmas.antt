@@ -1,7 +1,7 @@
 -- The locations of a value that holds a vector of others, from the vector's items.
 use Rattle.std.proofs.Common.{◌≡◌, ℕ, Vec, Global, ap, ◌∙◌}
-use Rattle.rc_sheet_model.specs.Sight.{locs_in_coll, locs_in_colls, locs_in_test, locs_in_tests, locs_in_item, locs_in_items}
-use Rattle.rc_sheet_model.specs.Sheet.{Class}
+use Rattle.rc_sheet_spec.specs.Sight.{locs_in_coll, locs_in_colls, locs_in_test, locs_in_tests, locs_in_item, locs_in_items}
+use Rattle.rc_sheet_spec.specs.Sheet.{Class}
 use Rattle.rc_ast.specs.declared.expressions.CollExpr.{CollExpr, Union}
 use Rattle.rc_ast.specs.declared.expressions.Test.{Test, And, Or}
 use Rattle.rc_ast.specs.declared.items.SheetItem.{SheetItem, Stage}

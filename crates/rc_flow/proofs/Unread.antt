@@ -4,13 +4,13 @@ use Rattle.std.specs.List.{list_any, list_all}
 use Rattle.std.specs.Ordering.{int_eq}
 use Rattle.std.proofs.lemmas.Bool.Decides.{nat_tests}
 use mathlib.Core.Path.{fun_ext}
-use Rattle.rc_model.specs.Clamp.{clamped}
-use Rattle.rc_sheet_model.specs.Sheet.{Who, game, current_player, current_team, team_of_current, team_of_var, who_var, Loc, Num, CardExpr, card_var, top_card, bottom_card, max_card, min_card, CollExpr, group_var, cards_in, filtered, union_of, known_in, CollExprs, no_coll, coll, IntExpr, literal, number, size_of, sum_of, worth_of, add, subtract, multiply, Test, eq_int, eq_card, eq_attr, eq_who, ne, less, less_eq, more, more_eq, has_value, and_of, or_of, not_of, all_of, any_of, Tests, no_test, test, Domain, each_player, each_card, each_group}
-use Rattle.rc_play_model.specs.Shape.{face_eq, team_at}
-use Rattle.rc_sheet_model.specs.Naming.{class_of}
-use Rattle.rc_play_model.specs.Owners.{place_among}
-use Rattle.rc_play_model.specs.Ends.{first_of, last_of}
-use Rattle.rc_play_model.specs.Value.{Scene, Bind, card_bound, group_bound, cut, both, nat_same, best_of, int_more, player_of, card_of, group_of, who_value, loc_place, num_place, number_there, cards_there, known_there, worth, sum_worth, worth_of_any, attr_of_any, groups_by, card_value, coll_value, colls_value, int_value, test_value, tests_value, members}
+use Rattle.rc_base.specs.Clamp.{clamped}
+use Rattle.rc_sheet_spec.specs.Sheet.{Who, game, current_player, current_team, team_of_current, team_of_var, who_var, Loc, Num, CardExpr, card_var, top_card, bottom_card, max_card, min_card, CollExpr, group_var, cards_in, filtered, union_of, known_in, CollExprs, no_coll, coll, IntExpr, literal, number, size_of, sum_of, worth_of, add, subtract, multiply, Test, eq_int, eq_card, eq_attr, eq_who, ne, less, less_eq, more, more_eq, has_value, and_of, or_of, not_of, all_of, any_of, Tests, no_test, test, Domain, each_player, each_card, each_group}
+use Rattle.rc_play_spec.specs.Shape.{face_eq, team_at}
+use Rattle.rc_sheet_spec.specs.Naming.{class_of}
+use Rattle.rc_play_spec.specs.Owners.{place_among}
+use Rattle.rc_play_spec.specs.Ends.{first_of, last_of}
+use Rattle.rc_play_spec.specs.Value.{Scene, Bind, card_bound, group_bound, cut, both, nat_same, best_of, int_more, player_of, card_of, group_of, who_value, loc_place, num_place, number_there, cards_there, known_there, worth, sum_worth, worth_of_any, attr_of_any, groups_by, card_value, coll_value, colls_value, int_value, test_value, tests_value, members}
 use Rattle.rc_flow.specs.Reads.{reads_who, reads_card, reads_coll, reads_colls, reads_int, reads_test, reads_tests, reads_domain}
 
 left : (a b : Bool) → (a || b) ≡ false → a ≡ false

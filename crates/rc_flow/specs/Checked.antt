@@ -1,7 +1,7 @@
 -- The fields of a checked sheet.
-use Rattle.rc_sheet_model.specs.Sheet.{Sheet}
-use Rattle.rc_sheet_model.specs.WellFormed.{IsWellFormed}
-use Rattle.rc_sheet_model.specs.Sight.{IsInSight}
+use Rattle.rc_sheet_spec.specs.Sheet.{Sheet}
+use Rattle.rc_sheet_spec.specs.WellFormed.{IsWellFormed}
+use Rattle.rc_sheet_spec.specs.Sight.{IsInSight}
 use Rattle.rc_ast.specs.Sheet.{sheet_seen}
 use Rattle.rc_flow.specs.declared.check.Checked.TheInside.{Inside}
 

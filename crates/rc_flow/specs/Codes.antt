@@ -5,8 +5,8 @@ use Rattle.std.specs.Coded.{Coded, code_by}
 use base.Stored.{Gv, gnil, gnum, gcons}
 use denote.Struct.Codes.{itself}
 use lib.IntN.{ℤ, pos, negsuc}
-use Rattle.rc_model.specs.Deck.{Groups, no_group, group, Branches, no_branch, branch}
-use Rattle.rc_sheet_model.specs.Sheet.{Class, game_class, player_class, team_class, End, top, bottom, Who, game, current_player, current_team, team_of_current, team_of_var, who_var, Loc, Num, CardExpr, card_var, top_card, bottom_card, max_card, min_card, CollExpr, group_var, cards_in, filtered, union_of, known_in, CollExprs, no_coll, coll, IntExpr, literal, number, size_of, sum_of, worth_of, add, subtract, multiply, Test, eq_int, eq_card, eq_attr, eq_who, ne, less, less_eq, more, more_eq, has_value, and_of, or_of, not_of, all_of, any_of, Tests, no_test, test, Domain, each_player, each_card, each_group, Effect, move, move_all, remember, forget, shuffle, set_to, increase, decrease, when, repeat, for_each, next_is, turn_round, peek, Effects, no_effect, effect, Alt, do_alt, if_alt, any_alt, SheetItem, do_item, stage, choice, SheetItems, no_item, item}
+use Rattle.rc_base.specs.Deck.{Groups, no_group, group, Branches, no_branch, branch}
+use Rattle.rc_sheet_spec.specs.Sheet.{Class, game_class, player_class, team_class, End, top, bottom, Who, game, current_player, current_team, team_of_current, team_of_var, who_var, Loc, Num, CardExpr, card_var, top_card, bottom_card, max_card, min_card, CollExpr, group_var, cards_in, filtered, union_of, known_in, CollExprs, no_coll, coll, IntExpr, literal, number, size_of, sum_of, worth_of, add, subtract, multiply, Test, eq_int, eq_card, eq_attr, eq_who, ne, less, less_eq, more, more_eq, has_value, and_of, or_of, not_of, all_of, any_of, Tests, no_test, test, Domain, each_player, each_card, each_group, Effect, move, move_all, remember, forget, shuffle, set_to, increase, decrease, when, repeat, for_each, next_is, turn_round, peek, Effects, no_effect, effect, Alt, do_alt, if_alt, any_alt, SheetItem, do_item, stage, choice, SheetItems, no_item, item}
 
 -- the cases of a type, counted
 pattern abbrev nought : Gv
@@ -497,7 +497,7 @@ first_of (item i items) = i
 
 abbrev pub end_of : SheetItem → Test
 end_of (do_item effects) = and_of no_test
-end_of (stage number class end body) = end
+end_of (stage n class end body) = end
 end_of (choice site alts) = and_of no_test
 
 abbrev pub coded_item : Coded SheetItem

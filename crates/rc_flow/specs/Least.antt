@@ -1,7 +1,7 @@
 -- The least offset among locations out of sight, as it is found going over them.
 use Rattle.std.specs.Prelude.{ℕ, min, if◌then◌else◌, List, [], ◌∷◌, Option, Some, None}
-use Rattle.rc_sheet_model.specs.Sheet.{LocName, Loc}
-use Rattle.rc_sheet_model.specs.Sight.{is_in_sight}
+use Rattle.rc_sheet_spec.specs.Sheet.{LocName, Loc}
+use Rattle.rc_sheet_spec.specs.Sight.{is_in_sight}
 
 -- the lesser of the offset that was found, if one was, and another
 abbrev pub with_offset : Option ℕ → ℕ → ℕ

@@ -1,7 +1,7 @@
 -- Whether an expression reads a variable, by the variable's place among those in scope. Binders inside an expression bind places
 -- behind those in scope, so the place stays the same within them.
 use Rattle.std.specs.Prelude.{ℕ, ◌==◌, ◌||◌, Bool, false}
-use Rattle.rc_sheet_model.specs.Sheet.{Who, game, current_player, current_team, team_of_current, team_of_var, who_var, CardExpr, card_var, top_card, bottom_card, max_card, min_card, CollExpr, group_var, cards_in, filtered, union_of, known_in, CollExprs, no_coll, coll, IntExpr, literal, number, size_of, sum_of, worth_of, add, subtract, multiply, Test, eq_int, eq_card, eq_attr, eq_who, ne, less, less_eq, more, more_eq, has_value, and_of, or_of, not_of, all_of, any_of, Tests, no_test, test, Domain, each_player, each_card, each_group}
+use Rattle.rc_sheet_spec.specs.Sheet.{Who, game, current_player, current_team, team_of_current, team_of_var, who_var, CardExpr, card_var, top_card, bottom_card, max_card, min_card, CollExpr, group_var, cards_in, filtered, union_of, known_in, CollExprs, no_coll, coll, IntExpr, literal, number, size_of, sum_of, worth_of, add, subtract, multiply, Test, eq_int, eq_card, eq_attr, eq_who, ne, less, less_eq, more, more_eq, has_value, and_of, or_of, not_of, all_of, any_of, Tests, no_test, test, Domain, each_player, each_card, each_group}
 
 abbrev pub reads_who : ℕ → Who → Bool
 reads_who k game = false

@@ -1,8 +1,8 @@
 -- Statements of laws: what an expression is worth doesn't hang on a variable that it doesn't read.
 use Rattle.std.specs.Prelude.{◌≡◌, false, List, ◌∷◌, ◌++◌, length}
-use Rattle.rc_sheet_model.specs.Sheet.{Test, CardExpr}
-use Rattle.rc_play_model.specs.Value.{Scene, Bind, test_value, card_value}
-use Rattle.rc_play_model.specs.Scene.{CardValue}
+use Rattle.rc_sheet_spec.specs.Sheet.{Test, CardExpr}
+use Rattle.rc_play_spec.specs.Value.{Scene, Bind, test_value, card_value}
+use Rattle.rc_play_spec.specs.Scene.{CardValue}
 use Rattle.rc_flow.specs.Reads.{reads_test, reads_card}
 
 abbrev pub UnreadInTests : Type 0

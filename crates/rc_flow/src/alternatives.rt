@@ -1,6 +1,6 @@
 //! The guards and domains of alternatives, and of all choices among items.
 ghost use Rattle.std.specs.Prelude.{◌≡◌, map, flat_map};
-ghost use Rattle.rc_sheet_model.specs.Sight.{locs_in_alt, locs_in_item, locs_in_items};
+ghost use Rattle.rc_sheet_spec.specs.Sight.{locs_in_alt, locs_in_item, locs_in_items};
 ghost use Rattle.rc_ast.specs.Names.{loc_name_seen};
 ghost use Rattle.rc_ast.specs.Items.{alt_seen, alts_seen, item_seen, items_seen};
 ghost use Rattle.rc_flow.specs.Least.{least_with};

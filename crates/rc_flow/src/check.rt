@@ -1,7 +1,7 @@
 //! The check of a whole sheet.
 ghost use Rattle.std.specs.Prelude.{◌≡◌, IfOk, IfErr};
-ghost use Rattle.rc_sheet_model.specs.WellFormed.{IsWellFormed};
-ghost use Rattle.rc_sheet_model.specs.Sight.{IsInSight, IsUnseen};
+ghost use Rattle.rc_sheet_spec.specs.WellFormed.{IsWellFormed};
+ghost use Rattle.rc_sheet_spec.specs.Sight.{IsInSight, IsUnseen};
 ghost use Rattle.rc_ast.specs.Sheet.{sheet_seen};
 
 use crate::first::first_unseen;
@@ -23,7 +23,7 @@ impl Drop for Checked {
 
 impl Model for Checked {
     ghost use Rattle.std.specs.Coded.{codes};
-    ghost use Rattle.rc_sheet_model.specs.Sheet.{Sheet};
+    ghost use Rattle.rc_sheet_spec.specs.Sheet.{Sheet};
     ghost use Rattle.rc_flow.specs.Codes.{sheet_codes};
 
     ghost Value = { Sheet };

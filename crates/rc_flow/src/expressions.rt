@@ -1,7 +1,7 @@
 //! The locations of expressions and tests. Each function gives the least of the offset that was found before and those
 //! of the expression's locations out of sight.
 ghost use Rattle.std.specs.Prelude.{◌≡◌, map};
-ghost use Rattle.rc_sheet_model.specs.Sight.{locs_in_card, locs_in_coll, locs_in_colls, locs_in_int, locs_in_test, locs_in_tests, locs_in_domain};
+ghost use Rattle.rc_sheet_spec.specs.Sight.{locs_in_card, locs_in_coll, locs_in_colls, locs_in_int, locs_in_test, locs_in_tests, locs_in_domain};
 ghost use Rattle.rc_ast.specs.Names.{loc_name_seen};
 ghost use Rattle.rc_ast.specs.Expressions.{card_seen, coll_seen, colls_seen, int_seen, test_seen, tests_seen, domain_seen};
 ghost use Rattle.rc_flow.specs.Least.{least_with};

@@ -1,6 +1,6 @@
 //! The first location of a sheet that breaks the rule.
 ghost use Rattle.std.specs.Prelude.{IfSome, IfNone};
-ghost use Rattle.rc_sheet_model.specs.Sight.{IsInSight, IsUnseen};
+ghost use Rattle.rc_sheet_spec.specs.Sight.{IsInSight, IsUnseen};
 ghost use Rattle.rc_ast.specs.Sheet.{sheet_seen};
 
 use crate::alternatives::in_items;

@@ -1,6 +1,6 @@
 //! One location.
 ghost use Rattle.std.specs.Prelude.{◌≡◌, map};
-ghost use Rattle.rc_sheet_model.specs.Sight.{is_in_sight};
+ghost use Rattle.rc_sheet_spec.specs.Sight.{is_in_sight};
 ghost use Rattle.rc_ast.specs.Names.{loc_seen, loc_name_seen};
 ghost use Rattle.rc_flow.specs.Least.{with_loc};
 

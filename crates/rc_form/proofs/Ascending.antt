@@ -1,6 +1,6 @@
 -- The tokens of a text stand in the order of their offsets.
 use Rattle.std.proofs.Common.{ℕ, ◌+◌, ◌≤◌, Bool, true, false, cond, eqb, ◌||◌, List, [], ◌∷◌, ◌++◌, length, arith}
-use Rattle.rc_model.specs.Token.{Token, opening, closing, atom, odd, offset_of, LexerState, between, in_atom, in_comment, is_part, is_blank, atom_front, token_with, token_at, tokens_from, state_behind}
+use Rattle.rc_base.specs.Token.{Token, opening, closing, atom, odd, offset_of, LexerState, between, in_atom, in_comment, is_part, is_blank, atom_front, token_with, token_at, tokens_from, state_behind}
 
 -- the offsets rise from the first number on, and stay below the second
 abbrev pub Ascends : ℕ → ℕ → List Token → Type 0

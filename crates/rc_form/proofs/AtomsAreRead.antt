@@ -2,9 +2,9 @@
 use Rattle.std.proofs.Common.{◌≡◌, ℕ, ◌+◌, ◌-◌, ◌≤◌, Bool, true, false, cond, eqb, IsTrue, ◌||◌, List, [], ◌∷◌, ◌++◌, length, refl, subst, arith}
 use Rattle.std.specs.List.{All, list_all, flat_map}
 use Rattle.std.proofs.lemmas.List.Elements.{All-nil, All-cons}
-use Rattle.rc_model.specs.Token.{Token, opening, closing, atom, odd, LexerState, between, in_atom, in_comment, is_part, is_blank, atom_front, token_with, token_at, tokens_from, state_behind}
-use Rattle.rc_model.specs.Tree.{Tree, word, list, Trees, nil, cons, spelling, spellings, IsSound, AreSound}
-use Rattle.rc_model.specs.Spelled.{Spelled, IsTopList, AreTopLists}
+use Rattle.rc_base.specs.Token.{Token, opening, closing, atom, odd, LexerState, between, in_atom, in_comment, is_part, is_blank, atom_front, token_with, token_at, tokens_from, state_behind}
+use Rattle.rc_base.specs.Tree.{Tree, word, list, Trees, nil, cons, spelling, spellings, IsSound, AreSound}
+use Rattle.rc_base.specs.Spelled.{Spelled, IsTopList, AreTopLists}
 use Rattle.rc_form.specs.Form.{tree_of, trees_of}
 use Rattle.rc_form.specs.SameForm.{IsOfAtoms, AreOfAtoms}
 use Rattle.rc_form.specs.declared.form.Form.{Form}

@@ -5,7 +5,7 @@ use Rattle.std.proofs.Math.Nat.{pow-le-pow_right}
 use Rattle.std.proofs.lemmas.Grind.{pow_more}
 use Rattle.std.proofs.lemmas.Bool.{cases_Bool, and_parts, leb-true, false≢true}
 use Rattle.std.proofs.lemmas.List.Folds.{list_all_at}
-use Rattle.rc_model.specs.Literal.{is_digit}
+use Rattle.rc_base.specs.Literal.{is_digit}
 
 -- each byte of digits is a digit
 pub digit_at : (bytes : List ℕ) (i : ℕ) → list_all is_digit bytes ≡ true → i < length bytes → (48 ≤ get_or bytes i 0) × (get_or bytes i 0 ≤ 57)

@@ -2,7 +2,7 @@
 use Rattle.std.proofs.Common.{◌≡◌, ℕ, ◌+◌, ◌<◌, ◌≤◌, List, [], ◌∷◌, ◌++◌, length, append_assoc, length-append, ◌⊎◌, inl, inr, refl, sym, ap, subst, ◌∙◌, arith}
 use Rattle.std.proofs.lemmas.Bool.{cases_lt}
 use Rattle.std.proofs.lemmas.List.{append-nil}
-use Rattle.rc_model.specs.Token.{Token, opening, closing, atom, odd, offset_of}
+use Rattle.rc_base.specs.Token.{Token, opening, closing, atom, odd, offset_of}
 use Rattle.rc_form.specs.FormFault.{open_behind, depth_from, lists_from, depth, lists, IsFaulty, IsFaultyBehind, NoneFaultyBelow, IsFirstFaulty, StayOpen, IsLastOpen, IsUnclosed, IsFirstFault}
 use Rattle.rc_form.specs.declared.fault.FormKind.{FormKind}
 

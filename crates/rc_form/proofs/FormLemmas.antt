@@ -1,7 +1,7 @@
 -- The tree of an atom, and of a list; how many trees there are of forms.
 use Rattle.std.proofs.Common.{◌≡◌, ℕ, List, sym, ap, ◌∙◌, Vec, suc, [], ◌∷◌, length, refl}
 use Rattle.std.specs.Global.{Global}
-use Rattle.rc_model.specs.Tree.{Tree, count}
+use Rattle.rc_base.specs.Tree.{Tree, count}
 use Rattle.rc_form.specs.declared.form.Form.{Form}
 use Rattle.rc_form.specs.declared.form.Span.{Span}
 use Rattle.rc_form.specs.declared.form.Form.TheVariants.{Atom, rolls-Atom, List as ListOf, rolls-List}

@@ -1,8 +1,8 @@
 -- One more form in the last of the open lists, which is the innermost.
 use Rattle.std.proofs.Common.{◌≡◌, ℕ, suc, ◌-◌, ◌+◌, ◌<◌, List, [], ◌∷◌, ◌++◌, length, take, map, reverse, slice_set, slice_index_or, sym, ap, ◌∙◌, arith}
 use Rattle.std.proofs.lemmas.List.{set_split, take_more, take_all, drop_all, map-append, reverse-append}
-use Rattle.rc_model.specs.Token.{Token}
-use Rattle.rc_model.specs.Tree.{Tree}
+use Rattle.rc_base.specs.Token.{Token}
+use Rattle.rc_base.specs.Tree.{Tree}
 use Rattle.rc_form.specs.Read.{Pending, read, read_with, with_part}
 use Rattle.rc_form.specs.Reader.{pending_of}
 use Rattle.rc_form.specs.declared.reader.OpenList.{OpenList}

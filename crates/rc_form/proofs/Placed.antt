@@ -3,10 +3,10 @@ use Rattle.std.proofs.Common.{ℕ, ◌+◌, ◌-◌, ◌≤◌, List, [], ◌∷
 use Rattle.std.specs.List.{All, flat_map}
 use Rattle.std.proofs.lemmas.List.{append_assoc, append-nil}
 use Rattle.std.proofs.lemmas.List.Elements.{All-nil, All-cons}
-use Rattle.rc_model.specs.Token.{Token, closing, between}
-use Rattle.rc_model.specs.Tree.{Tree, word, list, Trees, nil, cons, spelling, spellings}
-use Rattle.rc_model.specs.Placed.{starts, all_starts, Rise, IsPlaced}
-use Rattle.rc_model.specs.Spelled.{Spelled}
+use Rattle.rc_base.specs.Token.{Token, closing, between}
+use Rattle.rc_base.specs.Tree.{Tree, word, list, Trees, nil, cons, spelling, spellings}
+use Rattle.rc_base.specs.Placed.{starts, all_starts, Rise, IsPlaced}
+use Rattle.rc_base.specs.Spelled.{Spelled}
 use Rattle.rc_form.specs.Form.{tree_of, trees_of}
 use Rattle.rc_form.specs.declared.form.Form.{Form}
 use Rattle.rc_form.proofs.Ascending.{Ascends, Ascends-lower, Ascends-room, Ascends-tokens_from}

@@ -3,9 +3,9 @@ use Rattle.std.proofs.Common.{◌≡◌, ℕ, suc, ◌+◌, ◌-◌, ◌<◌, Bo
 use Rattle.std.specs.List.{list_all}
 use Rattle.std.proofs.lemmas.List.{append-nil}
 use Rattle.std.proofs.Math.Seq.{drop-append_seam}
-use Rattle.rc_model.specs.Token.{Token, opening, closing, atom, tokens, tokens_from, between, in_atom, is_part, atom_front}
-use Rattle.rc_model.specs.Tree.{Tree, word, list, Trees, nil, cons, spelling, spellings, IsSound, AreSound, printed, printed_parts, printed_behind, IsOpenAtMost, AreOpenAtMost}
-use Rattle.rc_model.specs.Spelled.{Spelled, IsTopList}
+use Rattle.rc_base.specs.Token.{Token, opening, closing, atom, tokens, tokens_from, between, in_atom, is_part, atom_front}
+use Rattle.rc_base.specs.Tree.{Tree, word, list, Trees, nil, cons, spelling, spellings, IsSound, AreSound, printed, printed_parts, printed_behind, IsOpenAtMost, AreOpenAtMost}
+use Rattle.rc_base.specs.Spelled.{Spelled, IsTopList}
 use Rattle.rc_form.specs.Form.{IsPrintable}
 use Rattle.rc_form.specs.SameForm.{SameForm, SameForms, SpellsAgain, IsAtom, IsOfAtoms, AreOfAtoms}
 use Rattle.rc_form.proofs.Tokens.{tokens_from-in_atom}

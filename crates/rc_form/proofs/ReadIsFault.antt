@@ -2,15 +2,15 @@
 use Rattle.std.proofs.Common.{◌≡◌, ℕ, suc, ◌+◌, ◌-◌, ◌<◌, ◌≤◌, Bool, true, false, cond, eqb, leb, ltb, List, [], ◌∷◌, ◌++◌, length, append_assoc, length-append, Ok, Err, ◌⊎◌, inl, inr, refl, sym, ap, subst, ◌∙◌, arith}
 use Rattle.std.proofs.lemmas.Bool.{leb-true, leb-false, ltb-true, ltb-false, ne_eqb, cases_lt}
 use Rattle.std.proofs.lemmas.List.{append-nil}
-use Rattle.rc_model.specs.Token.{Token, opening, closing, atom, odd, offset_of, tokens}
-use Rattle.rc_model.specs.Tree.{Tree, word}
+use Rattle.rc_base.specs.Token.{Token, opening, closing, atom, odd, offset_of, tokens}
+use Rattle.rc_base.specs.Tree.{Tree, word}
 use Rattle.rc_form.specs.FormFault.{open_behind, completed_by, depth_from, depth, lists, IsFaulty, IsFaultyBehind, NoneFaultyBelow, StayOpen, IsUnclosed, IsFirstFault, IsSpelledOrFaulty}
 use Rattle.rc_form.specs.Read.{Pending, Reading, read, with_part, closed}
 use Rattle.rc_form.specs.declared.fault.FormKind.{FormKind}
 use Rattle.rc_form.specs.declared.fault.FormFault.{FormFault}
 use Rattle.rc_form.specs.declared.fault.FormKind.TheVariants.{BadByte, Stray, TooDeep, AtomLong}
 use Rattle.rc_form.proofs.ReadIsSpelled.{started}
-use Rattle.rc_model.specs.Spelled.{next_offset}
+use Rattle.rc_base.specs.Spelled.{next_offset}
 use Rattle.rc_form.proofs.SpellingLaws.{Spelled-from_read}
 use Rattle.rc_form.proofs.FaultLaws.{depth_from-append, lists_from-append, same_cut, HasNoFault, HasNoFault-none}
 

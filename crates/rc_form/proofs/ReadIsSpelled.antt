@@ -5,9 +5,9 @@ use Rattle.std.specs.Result.{IfOk}
 use Rattle.std.proofs.lemmas.Bool.{leb-true, ltb-true, ltb-false, cases_lt}
 use Rattle.std.proofs.lemmas.List.{append-nil}
 use Rattle.std.proofs.lemmas.Grind.{flat_map-append}
-use Rattle.rc_model.specs.Token.{Token, opening, closing, atom, odd}
-use Rattle.rc_model.specs.Tree.{Tree, word, spelling, spellings, IsSound, AreSound}
-use Rattle.rc_model.specs.Spelled.{IsTopList, AreTopLists}
+use Rattle.rc_base.specs.Token.{Token, opening, closing, atom, odd}
+use Rattle.rc_base.specs.Tree.{Tree, word, spelling, spellings, IsSound, AreSound}
+use Rattle.rc_base.specs.Spelled.{IsTopList, AreTopLists}
 use Rattle.rc_form.specs.Form.{packed}
 use Rattle.rc_form.specs.Read.{Pending, Reading, read, with_part, closed}
 use Rattle.rc_form.specs.declared.fault.FormFault.{FormFault}

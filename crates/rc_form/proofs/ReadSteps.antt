@@ -1,8 +1,8 @@
 -- What reading gives at a token that closes a list or is a part of one.
 use Rattle.std.proofs.Common.{◌≡◌, ℕ, ◌+◌, ◌<◌, ◌≤◌, List, [], ◌∷◌, length, refl, arith, leb, true, IsTrue, nat_lt, ◌||◌}
 use Rattle.std.proofs.lemmas.Bool.{le-leb}
-use Rattle.rc_model.specs.Token.{Token, closing, atom, odd}
-use Rattle.rc_model.specs.Tree.{Tree, word}
+use Rattle.rc_base.specs.Token.{Token, closing, atom, odd}
+use Rattle.rc_base.specs.Tree.{Tree, word}
 use Rattle.rc_form.specs.Read.{Pending, read, read_with, closed, fault}
 use Rattle.rc_form.specs.declared.fault.FormKind.TheVariants.{BadByte}
 

@@ -3,9 +3,9 @@ use Rattle.std.proofs.Common.{◌≡◌, ℕ, suc, ◌+◌, ◌-◌, ◌<◌, �
 use Rattle.std.specs.List.{flat_map}
 use Rattle.std.proofs.lemmas.Bool.{le-leb, lt-ltb, le-ltb}
 use Rattle.std.proofs.lemmas.List.{append-nil}
-use Rattle.rc_model.specs.Token.{Token, opening, closing, atom, odd}
-use Rattle.rc_model.specs.Tree.{Tree, word, list, Trees, nil, cons, spelling, spellings, IsSound, AreSound}
-use Rattle.rc_model.specs.Spelled.{AreTopLists}
+use Rattle.rc_base.specs.Token.{Token, opening, closing, atom, odd}
+use Rattle.rc_base.specs.Tree.{Tree, word, list, Trees, nil, cons, spelling, spellings, IsSound, AreSound}
+use Rattle.rc_base.specs.Spelled.{AreTopLists}
 use Rattle.rc_form.specs.Form.{packed}
 use Rattle.rc_form.specs.Read.{Pending, read, read_with, with_part, closed}
 use Rattle.rc_form.proofs.ReadSteps.{read_closing}

@@ -1,12 +1,12 @@
 -- Spelling and reading say the same of a text.
 use Rattle.std.proofs.Common.{◌≡◌, ℕ, ◌+◌, List, [], ◌++◌, length, Ok, Err, sym, ap, subst, ◌∙◌, arith}
 use Rattle.std.specs.List.{flat_map}
-use Rattle.rc_model.specs.Token.{Token, between, tokens, tokens_from}
+use Rattle.rc_base.specs.Token.{Token, between, tokens, tokens_from}
 use Rattle.std.proofs.Math.Seq.{drop-length}
 use Rattle.std.proofs.lemmas.List.{append-nil}
 use Rattle.rc_form.specs.Lexer.{tokens_at}
-use Rattle.rc_model.specs.Tree.{Tree, spelling}
-use Rattle.rc_model.specs.Spelled.{Spelled, next_offset}
+use Rattle.rc_base.specs.Tree.{Tree, spelling}
+use Rattle.rc_base.specs.Spelled.{Spelled, next_offset}
 use Rattle.rc_form.specs.Read.{Reading, read}
 use Rattle.rc_form.proofs.Ascending.{Ascends-tokens_from}
 use Rattle.rc_form.proofs.SpelledIsRead.{AreEnough, read-lists}

@@ -4,7 +4,7 @@ use Rattle.std.specs.List.{list_all}
 use Rattle.std.proofs.lemmas.List.{drop_more}
 use Rattle.std.proofs.lemmas.List.{drop-drop}
 use Rattle.std.proofs.lemmas.Bool.{cases_Bool, ne_eqb, or_parts}
-use Rattle.rc_model.specs.Token.{opening, closing, atom, odd, is_part, atom_front, tokens_from, between, in_atom, is_blank}
+use Rattle.rc_base.specs.Token.{opening, closing, atom, odd, is_part, atom_front, tokens_from, between, in_atom, is_blank}
 use Rattle.rc_form.specs.Lexer.{tokens_at, begins_token}
 
 -- the front of parts is a front of the bytes

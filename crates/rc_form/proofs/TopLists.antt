@@ -2,8 +2,8 @@
 use Rattle.std.proofs.Common.{ℕ, ◌-◌, List, [], ◌∷◌}
 use Rattle.std.specs.List.{All}
 use Rattle.std.proofs.lemmas.List.Elements.{All-nil, All-cons, All-weaker}
-use Rattle.rc_model.specs.Tree.{Tree, word, list, Trees, nil, cons, IsSound, AreSound, IsOpenAtMost, AreOpenAtMost}
-use Rattle.rc_model.specs.Spelled.{Spelled, IsTopList, AreTopLists}
+use Rattle.rc_base.specs.Tree.{Tree, word, list, Trees, nil, cons, IsSound, AreSound, IsOpenAtMost, AreOpenAtMost}
+use Rattle.rc_base.specs.Spelled.{Spelled, IsTopList, AreTopLists}
 use Rattle.rc_form.specs.Form.{tree_of, trees_of, IsPrintable}
 use Rattle.rc_form.specs.declared.form.Form.{Form}
 

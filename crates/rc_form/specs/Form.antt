@@ -1,8 +1,8 @@
 -- A form as a tree, in which no clause meets a vector.
 use Rattle.std.specs.Prelude.{ℕ, List, map, Vec}
 use Rattle.std.specs.Global.{Global}
-use Rattle.rc_model.specs.Tree.{Tree, word, list, IsOpenAtMost}
-pub use Rattle.rc_model.specs.Tree.{packed}
+use Rattle.rc_base.specs.Tree.{Tree, word, list, IsOpenAtMost}
+pub use Rattle.rc_base.specs.Tree.{packed}
 use Rattle.rc_form.specs.declared.form.Form.{Form}
 use Rattle.rc_form.specs.declared.form.Span.{Span}
 use Rattle.rc_form.specs.declared.form.Form.TheOpen.{Form-F, Atom, List as ListOf}

@@ -1,8 +1,8 @@
 -- The first fault of a text, said of the whole list of its tokens.
 use Rattle.std.specs.Prelude.{◌≡◌, ℕ, ◌+◌, ◌-◌, ◌<◌, ◌≤◌, ◌⊎◌, ◌==◌, List, [], ◌∷◌, ◌++◌, length, if◌then◌else◌}
-use Rattle.rc_model.specs.Token.{Token, opening, closing, atom, odd, offset_of, tokens}
-use Rattle.rc_model.specs.Tree.{Tree}
-use Rattle.rc_model.specs.Spelled.{Spelled}
+use Rattle.rc_base.specs.Token.{Token, opening, closing, atom, odd, offset_of, tokens}
+use Rattle.rc_base.specs.Tree.{Tree}
+use Rattle.rc_base.specs.Spelled.{Spelled}
 use Rattle.rc_form.specs.declared.fault.FormKind.{FormKind}
 use Rattle.rc_form.specs.declared.fault.FormKind.TheVariants.{BadByte, Stray, TooDeep, AtomLong, Unclosed}
 use Rattle.rc_form.specs.declared.fault.FormFault.{FormFault}

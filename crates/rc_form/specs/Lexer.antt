@@ -1,6 +1,6 @@
 -- The tokens of what is left of a text.
 use Rattle.std.specs.Prelude.{ℕ, Bool, not, ◌||◌, ◌==◌, List, drop}
-use Rattle.rc_model.specs.Token.{Token, between, tokens_from, is_blank}
+use Rattle.rc_base.specs.Token.{Token, between, tokens_from, is_blank}
 
 -- the tokens behind this offset, where no atom and no comment is cut
 abbrev pub tokens_at : List ℕ → ℕ → List Token

@@ -1,7 +1,7 @@
 -- What reading tokens from left to right gives: the wanted lists, or the first fault.
 use Rattle.std.specs.Prelude.{ℕ, ◌+◌, nat_lt, nat_le, List, [], ◌∷◌, ◌++◌, length, Result, Ok, Err, if◌then◌else◌}
-use Rattle.rc_model.specs.Token.{Token, opening, closing, atom, odd}
-use Rattle.rc_model.specs.Tree.{Tree, word, list}
+use Rattle.rc_base.specs.Token.{Token, opening, closing, atom, odd}
+use Rattle.rc_base.specs.Tree.{Tree, word, list}
 use Rattle.rc_form.specs.Form.{packed}
 use Rattle.rc_form.specs.declared.fault.FormKind.{FormKind}
 use Rattle.rc_form.specs.declared.fault.FormKind.TheVariants.{BadByte, Stray, TooDeep, AtomLong, Unclosed}

@@ -1,8 +1,8 @@
 -- A reader between two tokens.
 use Rattle.std.specs.Prelude.{◌≡◌, List, length, map, reverse, Bool, ◌||◌, nat_lt, Err}
-use Rattle.rc_model.specs.Token.{Token, tokens}
+use Rattle.rc_base.specs.Token.{Token, tokens}
 use Rattle.rc_form.specs.Form.{trees_of}
-use Rattle.rc_model.specs.Tree.{Tree}
+use Rattle.rc_base.specs.Tree.{Tree}
 use Rattle.rc_form.specs.Read.{Pending, Reading, read, read_with}
 use Rattle.rc_form.specs.declared.fault.FormFail.{FormFail}
 use Rattle.rc_form.specs.declared.fault.FormFail.TheVariants.{Fault, Memory}

@@ -1,9 +1,9 @@
 -- Forms that differ in their offsets alone, and forms whose words are atoms.
 use Rattle.std.specs.Prelude.{◌≡◌, ℕ, ◌≤◌, List, [], ◌∷◌, length, IsTrue}
 use Rattle.std.specs.List.{list_all}
-use Rattle.rc_model.specs.Token.{is_part}
-use Rattle.rc_model.specs.Spelled.{Spelled}
-use Rattle.rc_model.specs.Tree.{Tree, word, list, Trees, nil, cons}
+use Rattle.rc_base.specs.Token.{is_part}
+use Rattle.rc_base.specs.Spelled.{Spelled}
+use Rattle.rc_base.specs.Tree.{Tree, word, list, Trees, nil, cons}
 
 -- the same words in the same lists, wherever they stand
 abbrev mutual

@@ -1,7 +1,7 @@
 -- What a borrowed word holds.
 use Rattle.std.specs.Prelude.{◌≤◌, length, IsTrue}
 use Rattle.std.specs.List.{list_all}
-use Rattle.rc_model.specs.Token.{is_part}
+use Rattle.rc_base.specs.Token.{is_part}
 use Rattle.rc_form.specs.declared.word.WordRef.TheInside.{Inside}
 
 -- 1 to 64 bytes that may stand in an atom

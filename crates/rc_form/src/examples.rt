@@ -1,8 +1,8 @@
 //! The definitions of forms that are the same, and of open and complete lists, computed on small texts. No function
 //! here does anything: each has a contract that the check proves by computing.
 ghost use Rattle.std.specs.Prelude.{◌≡◌, [], codes, replicate};
-ghost use Rattle.rc_model.specs.Token.{tokens, closing, opening};
-ghost use Rattle.rc_model.specs.Tree.{word, list, nil, cons};
+ghost use Rattle.rc_base.specs.Token.{tokens, closing, opening};
+ghost use Rattle.rc_base.specs.Tree.{word, list, nil, cons};
 ghost use Rattle.rc_form.specs.FormFault.{depth, lists, IsFaulty};
 ghost use Rattle.rc_form.specs.SameForm.{SameForm, IsAtom};
 ghost use Rattle.rc_form.specs.declared.fault.FormKind.TheVariants.{BadByte, Stray, TooDeep};

@@ -1,6 +1,6 @@
 //! Finds where tokens begin and end in a text.
 ghost use Rattle.std.specs.Prelude.{◌≡◌, ◌+◌, ◌<◌, ◌≤◌, length, drop, slice_index, IsTrue};
-ghost use Rattle.rc_model.specs.Token.{is_part, is_blank, atom_front, tokens_from, in_comment};
+ghost use Rattle.rc_base.specs.Token.{is_part, is_blank, atom_front, tokens_from, in_comment};
 ghost use Rattle.rc_form.specs.Lexer.{tokens_at, begins_token};
 
 /// Whether the byte may stand in an atom.

@@ -16,6 +16,6 @@ pub use fault::{FormFail, FormFault, FormKind};
 pub use form::{Form, Span};
 pub use literal::{integer, natural};
 pub use print::{FormMemory, print_form, printed_form_reads_back};
-pub use rc_names::Word;
+pub use rc_base::Word;
 pub use reading::{Forms, read_forms, texts_are_spelled_or_faulty};
 pub use word::WordRef;

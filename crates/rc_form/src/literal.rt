@@ -1,7 +1,7 @@
 //! Number literals: one to eighteen digits, and in a sheet an optional `-` before them.
 ghost use Rattle.std.specs.Prelude.{◌≡◌, ◌<◌, ◌≤◌, ◌^◌, ◌*◌, IsTrue, IfSome, length};
 ghost use Rattle.std.specs.List.{list_all};
-ghost use Rattle.rc_model.specs.Literal as literal;
+ghost use Rattle.rc_base.specs.Literal as literal;
 
 /// The number that a literal without a sign spells, if the word is one.
 pub fn natural(word: &[u8]) -> Option<u64>

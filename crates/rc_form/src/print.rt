@@ -1,6 +1,6 @@
 //! Prints forms.
 ghost use Rattle.std.specs.Prelude.{◌≡◌, ◌++◌, OnOk, IfOk};
-ghost use Rattle.rc_model.specs.Tree.{Tree, printed, printed_parts};
+ghost use Rattle.rc_base.specs.Tree.{Tree, printed, printed_parts};
 ghost use Rattle.rc_form.specs.Form.{tree_of, trees_of, packed, IsPrintable};
 ghost use Rattle.rc_form.specs.SameForm.{SameForm, SpellsAgain, IsOfAtoms, AreOfAtoms};
 

@@ -1,13 +1,13 @@
 //! Takes tokens one by one, and keeps the lists that are complete and those that are still open.
 ghost use Rattle.std.specs.Prelude.{◌≡◌, ◌<◌, ◌≤◌, List, [], ◌∷◌, ◌+◌, length, slice_index, IsTrue, OnOk, IfOk, IfErr};
-ghost use Rattle.rc_model.specs.Token.{Token, opening, closing, is_part};
-ghost use Rattle.rc_model.specs.Limits.{longest_text};
+ghost use Rattle.rc_base.specs.Token.{Token, opening, closing, is_part};
+ghost use Rattle.rc_base.specs.Limits.{longest_text};
 
 use crate::fault::{FormFail, FormKind};
 use crate::form::{Form, Span, atom_form, list_form};
 use crate::lexer::{atom_end, may_stand_in_atom};
 use crate::word::WordRef;
-use rc_names::limits::{MOST_BYTES, MOST_OPEN};
+use rc_base::limits::{MOST_BYTES, MOST_OPEN};
 use std::alloc::{AllocError, Global};
 
 /// A list whose `)` hasn't come yet.

@@ -1,16 +1,16 @@
 //! Reads a stated number of lists from a text.
 ghost use Rattle.std.specs.Prelude.{◌≡◌, ℕ, ◌≤◌, List, [], length, flat_map, Ok, Err, IfOk, IfErr, All};
-ghost use Rattle.rc_model.specs.Token.{tokens};
+ghost use Rattle.rc_base.specs.Token.{tokens};
 ghost use Rattle.rc_form.specs.Form.{tree_of, trees_of, IsPrintable};
 ghost use Rattle.rc_form.specs.FormFault.{IsFormFault, IsSpelledOrFaulty, IfFormFault};
 ghost use Rattle.rc_form.specs.Lexer.{tokens_at};
 ghost use Rattle.rc_form.specs.Read.{read};
 ghost use Rattle.rc_form.specs.Reader.{FaultIs};
 ghost use Rattle.rc_form.specs.SameForm.{IsOfAtoms};
-ghost use Rattle.rc_model.specs.Placed.{IsPlaced};
-ghost use Rattle.rc_model.specs.Spelled.{Spelled, IsTopList, next_offset};
-ghost use Rattle.rc_model.specs.Tree.{Tree, spelling};
-ghost use Rattle.rc_model.specs.Limits.{longest_text};
+ghost use Rattle.rc_base.specs.Placed.{IsPlaced};
+ghost use Rattle.rc_base.specs.Spelled.{Spelled, IsTopList, next_offset};
+ghost use Rattle.rc_base.specs.Tree.{Tree, spelling};
+ghost use Rattle.rc_base.specs.Limits.{longest_text};
 
 use crate::fault::{FormFail, FormKind};
 use crate::form::Form;

@@ -1,6 +1,6 @@
 //! The bytes of an atom, where they stand in its text.
 
-use rc_names::Word;
+use rc_base::Word;
 use std::marker::Model;
 
 /// 1 to 64 bytes that may stand in an atom, borrowed from a text. Contracts see the list of them.
@@ -24,7 +24,7 @@ impl<'t> Model for WordRef<'t> {
 impl<'t> WordRef<'t> {
     ghost use Rattle.std.specs.Prelude.{◌≡◌, ◌≤◌, length, IsTrue};
     ghost use Rattle.std.specs.List.{list_all};
-    ghost use Rattle.rc_model.specs.Token.{is_part};
+    ghost use Rattle.rc_base.specs.Token.{is_part};
 
     /// The word of these bytes, which are 1 to 64 that may stand in an atom.
     pub fn of(bytes: &'t [u8]) -> WordRef<'t>

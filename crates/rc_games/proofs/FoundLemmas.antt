@@ -1,7 +1,7 @@
 -- What is found under the same ask.
 use Rattle.std.proofs.Common.{◌≡◌, true, sym, ap, ◌∙◌}
-use Rattle.rc_play_model.specs.About.{About}
-use Rattle.rc_play_model.specs.Tally.{Ask, tally}
+use Rattle.rc_play_spec.specs.About.{About}
+use Rattle.rc_play_spec.specs.Tally.{Ask, tally}
 use Rattle.rc_cache.specs.Same.{same_ask}
 use Rattle.rc_cache.specs.SameLaws.{asks_decide}
 

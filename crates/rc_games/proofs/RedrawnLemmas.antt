@@ -1,11 +1,11 @@
 -- A table that is redrawn for a decision is one with which somebody decides there.
 use Rattle.std.proofs.Common.{◌≡◌, ℕ, ◌<◌, List, length, subst, sym, ap, ◌∙◌}
-use Rattle.rc_sheet_model.specs.Sight.{IsInSight}
-use Rattle.rc_play_model.specs.Shape.{Shape, shape_of}
-use Rattle.rc_play_model.specs.About.{About}
-use Rattle.rc_play_model.specs.ChoiceLaws.{SizeRedrawn}
-use Rattle.rc_play_model.specs.Redraw.{redraw}
-use Rattle.rc_play_model.specs.View.{View}
+use Rattle.rc_sheet_spec.specs.Sight.{IsInSight}
+use Rattle.rc_play_spec.specs.Shape.{Shape, shape_of}
+use Rattle.rc_play_spec.specs.About.{About}
+use Rattle.rc_play_spec.specs.ChoiceLaws.{SizeRedrawn}
+use Rattle.rc_play_spec.specs.Redraw.{redraw}
+use Rattle.rc_play_spec.specs.View.{View}
 use Rattle.rc_redraw.specs.Need.{IsAtDecision}
 use Rattle.rc_rules.specs.Machine.{CanDecide}
 use Rattle.rc_table.specs.Laid.{Laid}

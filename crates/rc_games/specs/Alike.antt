@@ -1,8 +1,8 @@
 -- Two machines that stand at one place.
 use Rattle.std.specs.Prelude.{◌≡◌}
-use Rattle.rc_play_model.specs.About.{About}
-use Rattle.rc_play_model.specs.Keyed.{dealing_of}
-use Rattle.rc_play_model.specs.Step.{Config}
+use Rattle.rc_play_spec.specs.About.{About}
+use Rattle.rc_play_spec.specs.Keyed.{dealing_of}
+use Rattle.rc_play_spec.specs.Step.{Config}
 use Rattle.rc_rules.specs.Dealer.{Dealt}
 
 -- they play one about and stand at one configuration, with dealers that shuffle alike

@@ -1,6 +1,6 @@
 -- The memo that forgets, as contracts see it.
 use Rattle.std.specs.Prelude.{ℕ, List, None}
-use Rattle.rc_play_model.specs.About.{About}
+use Rattle.rc_play_spec.specs.About.{About}
 use Rattle.rc_redraw.specs.Asking.{Key}
 use Rattle.rc_redraw.specs.Counts.{Counts}
 

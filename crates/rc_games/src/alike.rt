@@ -1,7 +1,7 @@
 //! Two machines side by side.
 ghost use Rattle.std.specs.Prelude.{◌≡◌, ◌<◌, ◌≤◌, false, length, IfOk, OnOk};
-ghost use Rattle.rc_model.specs.Limits.{most_items};
-ghost use Rattle.rc_play_model.specs.Step.{start};
+ghost use Rattle.rc_base.specs.Limits.{most_items};
+ghost use Rattle.rc_play_spec.specs.Step.{start};
 ghost use Rattle.rc_code.specs.Seen.{code_seen};
 ghost use Rattle.rc_code.specs.Stands.{StandsFor};
 ghost use Rattle.rc_rules.specs.Control.{stop_seen};

@@ -1,6 +1,6 @@
 //! What matches of a sheet share.
 ghost use Rattle.std.specs.Prelude.{◌≡◌, IfOk};
-ghost use Rattle.rc_play_model.specs.Shape.{shape_of as shape_for};
+ghost use Rattle.rc_play_spec.specs.Shape.{shape_of as shape_for};
 
 use crate::sheets::{NoGame, checked_sheet, sheet_in};
 use rc_deck::Memory;

@@ -1,8 +1,8 @@
 //! A memo that forgets.
 ghost use Rattle.std.specs.Prelude.{◌≡◌, true, Some, [], IfOk};
 ghost use Rattle.std.specs.List.{AllByRecursion};
-ghost use Rattle.rc_play_model.specs.About.{About as PureAbout};
-ghost use Rattle.rc_play_model.specs.Tally.{tally as tally_of};
+ghost use Rattle.rc_play_spec.specs.About.{About as PureAbout};
+ghost use Rattle.rc_play_spec.specs.Tally.{tally as tally_of};
 ghost use Rattle.rc_redraw.specs.Asking.{key_seen};
 ghost use Rattle.rc_redraw.specs.Reply.{IfHit};
 ghost use Rattle.rc_cache.specs.Same as same;

@@ -1,15 +1,15 @@
 //! Games with their plans.
 ghost use Rattle.std.specs.Prelude.{◌≡◌, length, IfOk};
-ghost use Rattle.rc_play_model.specs.Shape.{shape_of};
+ghost use Rattle.rc_play_spec.specs.Shape.{shape_of};
 ghost use Rattle.rc_code.specs.Seen.{code_seen};
 ghost use Rattle.rc_code.specs.Stands.{StandsFor};
 
 use crate::basis::{Basis, basis_in};
 use crate::sheets::NoGame;
+use rc_base::limits::LONGEST_TEXT;
 use rc_code::Code;
 use rc_deck::Memory;
 use rc_form::{FormFail, read_forms};
-use rc_names::limits::LONGEST_TEXT;
 use rc_plan::{PlanFail, plan_of};
 use rc_rollout::shared_code;
 use rc_rules::{About, Plan};

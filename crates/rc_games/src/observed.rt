@@ -5,11 +5,11 @@ ghost use Rattle.rc_code.specs.Stands.{StandsFor};
 ghost use Rattle.rc_redraw.specs.Need.{need_seen, IsNeed};
 ghost use Rattle.rc_rollout.specs.Blank.{counts_of};
 
+use rc_base::Steps;
 use rc_code::Code;
 use rc_deck::Memory;
 use rc_redraw::{Chooser, Need};
 use rc_rollout::{Blank, Choices};
-use rc_steps::Steps;
 use std::alloc::Global;
 use std::sync::Arc;
 use std::sync::ledger::Ledger;

@@ -1,16 +1,16 @@
 //! The sheets of texts.
 ghost use Rattle.std.specs.Prelude.{ℕ, IfOk};
-ghost use Rattle.rc_model.specs.Placed.{IsPlaced};
+ghost use Rattle.rc_base.specs.Placed.{IsPlaced};
 ghost use Rattle.rc_form.specs.Form.{tree_of, IsPrintable};
 ghost use Rattle.rc_form.specs.SameForm.{IsOfAtoms};
 ghost use Rattle.rc_ast.specs.Sheet.{sheet_seen};
-ghost use Rattle.rc_sheet_model.specs.WellFormed.{IsWellFormed};
+ghost use Rattle.rc_sheet_spec.specs.WellFormed.{IsWellFormed};
 
 use rc_ast::Sheet;
+use rc_base::limits::LONGEST_TEXT;
 use rc_deck::Memory;
 use rc_flow::{Checked, check_sight};
 use rc_form::{Form, FormFail, read_forms};
-use rc_names::limits::LONGEST_TEXT;
 use rc_sheet::{SheetFail, sheet_of};
 use std::alloc::Global;
 

@@ -13,7 +13,7 @@ use rc_deck::Memory;
 use rc_draw::key32;
 use rc_flat::{FlatMachine, HomeMachine};
 use rc_plain::PlainMachine;
-use rc_play_model::menu_sizes_are_functions_of_views;
+use rc_play_spec::menu_sizes_are_functions_of_views;
 use rc_redraw::{Need, redraw};
 use rc_rules::{Machine, Menu};
 use rc_table::Table;

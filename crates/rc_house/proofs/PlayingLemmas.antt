@@ -3,55 +3,55 @@ use Rattle.std.proofs.Common.{◌≡◌, ◌<◌, ◌≤◌, ◌+◌, inl, inr, 
 use Rattle.std.specs.Prelude.{nat_lt, if◌then◌else◌}
 use Rattle.std.proofs.lemmas.Bool.{lt-ltb}
 use Rattle.std.specs.Global.{Global}
-use Rattle.rc_sheet_model.specs.Sheet.{Sheet}
-use Rattle.rc_play_model.specs.About.{About, about_of}
-use Rattle.rc_play_model.specs.House.{standings_of}
-use Rattle.rc_play_model.specs.Shape.{shape_of}
-use Rattle.rc_play_model.specs.Plan.{Plan}
+use Rattle.rc_sheet_spec.specs.Sheet.{Sheet}
+use Rattle.rc_play_spec.specs.About.{About, about_of}
+use Rattle.rc_play_spec.specs.House.{standings_of}
+use Rattle.rc_play_spec.specs.Shape.{shape_of}
+use Rattle.rc_play_spec.specs.Plan.{Plan}
 use Rattle.rc_cache.specs.Hits.{hits, cost}
 use Rattle.rc_trick.specs.Bench.{bench_plan, bench_text}
-use Rattle.rc_records.specs.Series.{IsTold, looks_of, matches_of}
-use Rattle.rc_records.specs.declared.series.Series.{Series}
+use Rattle.rc_series.specs.Series.{IsTold, looks_of, matches_of}
+use Rattle.rc_series.specs.declared.series.Series.{Series}
 use Rattle.rc_rules.specs.Plan.{plan_seen}
 use Rattle.rc_rules.specs.Record.{record_seen, standing_seen}
 use Rattle.rc_text.specs.House.{named_seen}
-use Rattle.rc_text_model.specs.HouseText.{NamedText as PureNamed, naming, text_in, text_of}
-use Rattle.rc_text_model.specs.Naming.{legend_of}
-use Rattle.rc_text_model.specs.PlayedLaws.{house_text_in, played_text}
-use Rattle.rc_text_model.specs.Reading.{lines_in}
-use Rattle.rc_text_model.proofs.SameTexts.{text_same}
+use Rattle.rc_play_spec.specs.HouseText.{NamedText as PureNamed, naming, text_in, text_of}
+use Rattle.rc_play_spec.specs.Naming.{legend_of}
+use Rattle.rc_play_spec.specs.PlayedLaws.{house_text_in, played_text}
+use Rattle.rc_play_spec.specs.Reading.{lines_in}
+use Rattle.rc_play_spec.proofs.SameTexts.{text_same}
 use Rattle.rc_trick.specs.Trick.{IsTrickGame}
-use Rattle.rc_command.specs.declared.options.Format.{Format}
-use Rattle.rc_command.specs.declared.options.Format.TheVariants.{Plain, Named}
-use Rattle.rc_command.specs.declared.options.Options.{Options}
-use Rattle.rc_command.specs.Words.{is_named}
-use Rattle.rc_command.specs.Command.{options_of}
-use Rattle.rc_command.specs.declared.command.Command.{Command}
-use Rattle.rc_command.specs.declared.command.Command.TheVariants as command
-use Rattle.rc_answers.specs.declared.answer.Answer.{Answer as Stored}
-use Rattle.rc_answers.specs.declared.answer.Answer.TheVariants.{Text, Refused}
-use Rattle.rc_answers.specs.declared.answer.Game.{Game}
-use Rattle.rc_answers.specs.declared.answer.Prepared.TheVariants.{Answered, Playing}
-use Rattle.rc_answers.specs.declared.note.Note.{Note}
-use Rattle.rc_answers.specs.declared.note.Note.TheVariants.{Looks}
-use Rattle.rc_answers.specs.declared.status.Status.{Status}
-use Rattle.rc_answers.specs.declared.status.Status.TheVariants.{Memory}
-use Rattle.rc_answers.specs.declared.task.Task.{Task}
-use Rattle.rc_answers.specs.declared.task.Task.TheVariants.{Play, Check, Sheet as PrintsSheet, Migrate, Watch, Measure, Rival}
-use Rattle.rc_answers.specs.Answer.{Answer, text, house_played, playouts_of, seen, IsGame}
-use Rattle.rc_answers.specs.Bench.{IsBenchAnswer}
-use Rattle.rc_answers.specs.Legend.{HasLegend}
+use Rattle.rc_commands.specs.declared.options.Format.{Format}
+use Rattle.rc_commands.specs.declared.options.Format.TheVariants.{Plain, Named}
+use Rattle.rc_commands.specs.declared.options.Options.{Options}
+use Rattle.rc_commands.specs.Words.{is_named}
+use Rattle.rc_commands.specs.Command.{options_of}
+use Rattle.rc_commands.specs.declared.command.Command.{Command}
+use Rattle.rc_commands.specs.declared.command.Command.TheVariants as command
+use Rattle.rc_commands.specs.declared.answer.Answer.{Answer as Stored}
+use Rattle.rc_commands.specs.declared.answer.Answer.TheVariants.{Text, Refused}
+use Rattle.rc_commands.specs.declared.answer.Game.{Game}
+use Rattle.rc_commands.specs.declared.answer.Prepared.TheVariants.{Answered, Playing}
+use Rattle.rc_commands.specs.declared.note.Note.{Note}
+use Rattle.rc_commands.specs.declared.note.Note.TheVariants.{Looks}
+use Rattle.rc_commands.specs.declared.status.Status.{Status}
+use Rattle.rc_commands.specs.declared.status.Status.TheVariants.{Memory}
+use Rattle.rc_commands.specs.declared.task.Task.{Task}
+use Rattle.rc_commands.specs.declared.task.Task.TheVariants.{Play, Check, Sheet as PrintsSheet, Migrate, Watch, Measure, Rival}
+use Rattle.rc_commands.specs.Answer.{Answer, text, house_played, playouts_of, seen, IsGame}
+use Rattle.rc_commands.specs.Bench.{IsBenchAnswer}
+use Rattle.rc_commands.specs.Legend.{HasLegend}
 use Rattle.rc_house.specs.Bench.{BenchOutcome, summary, no_memory as bench_no_memory}
 use Rattle.rc_house.specs.Ends.{Runs}
-use Rattle.rc_answers.specs.Note.{looks_line, note_line}
+use Rattle.rc_commands.specs.Note.{looks_line, note_line}
 use Rattle.rc_house.specs.Outcome.{Answers, CountedFew}
-use Rattle.rc_answers.specs.Players.{AreHits, alone, shared, counted_playouts}
+use Rattle.rc_commands.specs.Players.{AreHits, alone, shared, counted_playouts}
 use Rattle.rc_house.specs.Port.{Port, Ports, port, IsSteady}
 use Rattle.rc_house.specs.Running.{ReadsAnswer, ReadsGame, IsSeriesOf, TellsOf, series_text, PreparesCommand, PreparesNone, AnswersBench, AnswersSource, AnswersCommand, Concludes}
-use Rattle.rc_answers.proofs.AnswerLaws.{counted_few}
-use Rattle.rc_answers.proofs.BenchLaws.{summary_is, few_steps}
+use Rattle.rc_commands.proofs.AnswerLaws.{counted_few}
+use Rattle.rc_commands.proofs.BenchLaws.{summary_is, few_steps}
 use Rattle.rc_house.proofs.OutcomeLemmas.{concluded, performed}
-use Rattle.rc_answers.proofs.SomeAnswer.{some_hits}
+use Rattle.rc_commands.proofs.SomeAnswer.{some_hits}
 
 -- No more steps than playouts are for the command's answer.
 few_of : (options : Options) (answer : Answer) (told : Option (List ℕ)) (faults : ℕ) (after : Port) (steps steps' : ℕ)

@@ -1,10 +1,10 @@
 -- How `bench` ends. It reads nothing.
 use Rattle.std.specs.Prelude.{◌≡◌, ℕ, ◌+◌, ◌≤◌, List}
-use Rattle.rc_command.specs.declared.options.Options.{Options}
-use Rattle.rc_answers.specs.declared.status.Status.{Status}
-use Rattle.rc_answers.specs.declared.status.Status.TheVariants as ending
-use Rattle.rc_answers.specs.Answer.{Answer, text, playouts_of}
-use Rattle.rc_answers.specs.Bench.{IsBenchAnswer}
+use Rattle.rc_commands.specs.declared.options.Options.{Options}
+use Rattle.rc_commands.specs.declared.status.Status.{Status}
+use Rattle.rc_commands.specs.declared.status.Status.TheVariants as ending
+use Rattle.rc_commands.specs.Answer.{Answer, text, playouts_of}
+use Rattle.rc_commands.specs.Bench.{IsBenchAnswer}
 use Rattle.rc_house.specs.Outcome.{Refuses}
 use Rattle.rc_house.specs.Port.{Ports, Delivers}
 

@@ -1,43 +1,43 @@
 -- What the private parts of `run` and `run_alone` do, from the source to the ports. No contract of another crate cites
 -- it: Ends.antt says what comes of it.
 use Rattle.std.specs.Prelude.{◌≡◌, ◌≤◌, ◌⊎◌, ℕ, ◌+◌, Bool, List, Result, Ok, Err, length, map}
-use Rattle.rc_play_model.specs.About.{About, about_of}
-use Rattle.rc_play_model.specs.House.{standings_of}
-use Rattle.rc_play_model.specs.Plan.{Plan}
-use Rattle.rc_records.specs.Series.{IsTold, looks_of, matches_of}
-use Rattle.rc_records.specs.declared.series.Series.{Series}
+use Rattle.rc_play_spec.specs.About.{About, about_of}
+use Rattle.rc_play_spec.specs.House.{standings_of}
+use Rattle.rc_play_spec.specs.Plan.{Plan}
+use Rattle.rc_series.specs.Series.{IsTold, looks_of, matches_of}
+use Rattle.rc_series.specs.declared.series.Series.{Series}
 use Rattle.rc_rules.specs.Plan.{plan_seen}
 use Rattle.rc_rules.specs.Record.{record_seen, standing_seen}
 use Rattle.rc_trick.specs.Bench.{bench_plan, bench_text}
-use Rattle.rc_sheet_model.specs.Sheet.{Sheet}
+use Rattle.rc_sheet_spec.specs.Sheet.{Sheet}
 use Rattle.rc_text.specs.House.{text_of, named_seen}
-use Rattle.rc_text_model.specs.HouseText.{naming, text_in}
+use Rattle.rc_play_spec.specs.HouseText.{naming, text_in}
 use Rattle.rc_trick.specs.Trick.{IsTrickGame}
-use Rattle.rc_command.specs.Command.{IsCommand, options_of, workers_of}
-use Rattle.rc_command.specs.declared.command.Command.{Command}
-use Rattle.rc_command.specs.declared.command.Command.TheVariants as command
-use Rattle.rc_command.specs.declared.options.Format.{Format}
-use Rattle.rc_command.specs.declared.options.Format.TheVariants.{Plain, Named}
-use Rattle.rc_command.specs.declared.options.Options.{Options}
-use Rattle.rc_command.specs.Words.{is_named}
-use Rattle.rc_answers.specs.declared.task.Task.{Task}
-use Rattle.rc_answers.specs.declared.task.Task.TheVariants.{Play, Check, Sheet as PrintsSheet, Migrate, Watch}
-use Rattle.rc_answers.specs.declared.task.Task.TheVariants.{Measure, Rival}
-use Rattle.rc_answers.specs.declared.answer.Answer.{Answer as Stored}
-use Rattle.rc_answers.specs.declared.answer.Game.{Game}
-use Rattle.rc_answers.specs.declared.answer.Answer.TheVariants as stored
-use Rattle.rc_answers.specs.declared.answer.Prepared.{Prepared}
-use Rattle.rc_answers.specs.declared.answer.Prepared.TheVariants.{Answered, Playing}
-use Rattle.rc_answers.specs.declared.status.Status.{Status}
-use Rattle.rc_answers.specs.declared.status.Status.TheVariants as ending
-use Rattle.rc_answers.specs.Task.{IsNoteOf}
-use Rattle.rc_answers.specs.declared.note.Note.TheVariants.{Looks}
-use Rattle.rc_answers.specs.Note.{note_line}
-use Rattle.rc_answers.specs.Players.{AreHits, CanPlay, counted_playouts}
-use Rattle.rc_answers.specs.Answer.{Answer, seen, playouts_of, IsGame, IsPlayed}
-use Rattle.rc_answers.specs.Bench.{IsBenchAnswer}
+use Rattle.rc_commands.specs.Command.{IsCommand, options_of, workers_of}
+use Rattle.rc_commands.specs.declared.command.Command.{Command}
+use Rattle.rc_commands.specs.declared.command.Command.TheVariants as command
+use Rattle.rc_commands.specs.declared.options.Format.{Format}
+use Rattle.rc_commands.specs.declared.options.Format.TheVariants.{Plain, Named}
+use Rattle.rc_commands.specs.declared.options.Options.{Options}
+use Rattle.rc_commands.specs.Words.{is_named}
+use Rattle.rc_commands.specs.declared.task.Task.{Task}
+use Rattle.rc_commands.specs.declared.task.Task.TheVariants.{Play, Check, Sheet as PrintsSheet, Migrate, Watch}
+use Rattle.rc_commands.specs.declared.task.Task.TheVariants.{Measure, Rival}
+use Rattle.rc_commands.specs.declared.answer.Answer.{Answer as Stored}
+use Rattle.rc_commands.specs.declared.answer.Game.{Game}
+use Rattle.rc_commands.specs.declared.answer.Answer.TheVariants as stored
+use Rattle.rc_commands.specs.declared.answer.Prepared.{Prepared}
+use Rattle.rc_commands.specs.declared.answer.Prepared.TheVariants.{Answered, Playing}
+use Rattle.rc_commands.specs.declared.status.Status.{Status}
+use Rattle.rc_commands.specs.declared.status.Status.TheVariants as ending
+use Rattle.rc_commands.specs.Task.{IsNoteOf}
+use Rattle.rc_commands.specs.declared.note.Note.TheVariants.{Looks}
+use Rattle.rc_commands.specs.Note.{note_line}
+use Rattle.rc_commands.specs.Players.{AreHits, CanPlay, counted_playouts}
+use Rattle.rc_commands.specs.Answer.{Answer, seen, playouts_of, IsGame, IsPlayed}
+use Rattle.rc_commands.specs.Bench.{IsBenchAnswer}
 use Rattle.rc_house.specs.Port.{Port, HasFailed, IsSteady, Delivers, Took}
-use Rattle.rc_answers.specs.Status.{line_of, refusal_status}
+use Rattle.rc_commands.specs.Status.{line_of, refusal_status}
 use Rattle.rc_house.specs.Outcome.{Answers, CountedFew, GaveFew, GaveTooMuch}
 
 -- it is the command of some words

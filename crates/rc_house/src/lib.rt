@@ -1,12 +1,12 @@
 //! The commands, from their words to the end: they read their source, have its matches played, and write what
-//! `rc_answers` says.
+//! `rc_commands` says.
 #![tactic(auto)]
 
 mod handing;
 mod running;
 
 pub use handing::refuse;
-pub use rc_answers::{
+pub use rc_commands::{
     Refusal, SourceKind, Status, a_printed_sheet_is_printed_again, absent_exactly,
     answers_are_alike, codes_of_statuses, lines_of_statuses, one_answer, some_answer,
     sources_of_tasks, texts_are_the_same, what_is_played_is_judged_legal,

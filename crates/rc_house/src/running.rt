@@ -1,40 +1,38 @@
 //! The calls that a program makes: they run a command from its words to its end.
 ghost use Rattle.std.specs.Prelude.{◌≡◌, ◌<◌, ◌≤◌, ◌+◌, ℕ, [], map, true, string_bytes, IfOk, IfErr};
-ghost use Rattle.rc_play_model.specs.MatchLaws.{AlikeSamePicks};
+ghost use Rattle.rc_play_spec.specs.MatchLaws.{AlikeSamePicks};
 ghost use Rattle.rc_rules.specs.Plan.{plan_seen};
 ghost use Rattle.rc_text.specs.House.{Fits};
-ghost use Rattle.rc_text_model.specs.Reading.{lines_in};
-ghost use Rattle.rc_command.specs.Command.{IsCommand, options_of, workers_of};
-ghost use Rattle.rc_command.specs.Words.{is_named};
-ghost use Rattle.rc_answers.specs.declared.note.Note.TheVariants.{Looks};
-ghost use Rattle.rc_answers.specs.Answer.{IsGame};
-ghost use Rattle.rc_answers.specs.Task.{CanSearch};
-ghost use Rattle.rc_search_model.specs.RivalLaws.{AlikeSameSearches};
+ghost use Rattle.rc_play_spec.specs.Reading.{lines_in};
+ghost use Rattle.rc_commands.specs.Command.{IsCommand, options_of, workers_of};
+ghost use Rattle.rc_commands.specs.Words.{is_named};
+ghost use Rattle.rc_commands.specs.declared.note.Note.TheVariants.{Looks};
+ghost use Rattle.rc_commands.specs.Answer.{IsGame};
+ghost use Rattle.rc_commands.specs.Task.{CanSearch};
+ghost use Rattle.rc_play_spec.specs.RivalLaws.{AlikeSameSearches};
 ghost use Rattle.rc_house.specs.Ends.{Ends, RefusesMany, Runs};
-ghost use Rattle.rc_answers.specs.Laws.{TextsAreTheSame};
-ghost use Rattle.rc_answers.specs.PlayedLaws.{PlayedIsChecked, PlayedIsMeasured, PlayedIsMigrated};
-ghost use Rattle.rc_answers.specs.Plays.{WrittenIsPlayed};
-ghost use Rattle.rc_answers.specs.WatchedLaws.{AbsentExactly, WatchedIsRead};
-ghost use Rattle.rc_answers.specs.Players.{CanPlay};
+ghost use Rattle.rc_commands.specs.Laws.{TextsAreTheSame};
+ghost use Rattle.rc_commands.specs.PlayedLaws.{PlayedIsChecked, PlayedIsMeasured, PlayedIsMigrated};
+ghost use Rattle.rc_commands.specs.Plays.{WrittenIsPlayed};
+ghost use Rattle.rc_commands.specs.WatchedLaws.{AbsentExactly, WatchedIsRead};
+ghost use Rattle.rc_commands.specs.Players.{CanPlay};
 ghost use Rattle.rc_house.specs.Port.{between, moment};
 ghost use Rattle.rc_house.specs.Running.{AnswersCommand, ArePlayedBy, HasWords, IsSeriesFor, NamesNone};
 ghost use Rattle.rc_house.specs.Running.{PreparesCommand, PreparesNone, ReadsNone, ReadsPrepared, TellsOf};
 ghost use Rattle.rc_house.specs.Running.{counted_for, series_text, told_of};
 
 use crate::handing::{conclude, refuse};
-use rc_answers::{
-    Answer, Game, Note, Prepared, Status, Task, absent_exactly, bench_game, legend_for, prepare,
-    texts_are_the_same, what_is_played_is_judged_legal, what_is_played_is_measured,
-    what_is_played_is_migrated, what_is_watched_is_read, what_is_written_is_played,
+use rc_base::Steps;
+use rc_commands::{
+    Answer, Command, Format, Game, Note, Options, Prepared, Status, Task, absent_exactly,
+    bench_game, command_of, legend_for, prepare, texts_are_the_same,
+    what_is_played_is_judged_legal, what_is_played_is_measured, what_is_played_is_migrated,
+    what_is_watched_is_read, what_is_written_is_played,
 };
-use rc_command::{Command, Format, Options, command_of};
 use rc_deck::Memory;
 use rc_outside::{Gate, Sink, Source, read_all};
-use rc_play_model::alike_decisions_have_one_item;
-use rc_records::Series;
-use rc_search_model::alike_searches_have_one_item;
-use rc_series::series_of;
-use rc_steps::Steps;
+use rc_play_spec::{alike_decisions_have_one_item, alike_searches_have_one_item};
+use rc_series::{Series, series_of};
 use rc_text::{write_house, write_named};
 use rc_trick::summary;
 use rc_workers::series_by_workers;

@@ -2,9 +2,9 @@
 ghost use Rattle.std.specs.Prelude.{◌≡◌, ◌<◌};
 
 use crate::expect::expect_same;
+use rc_base::Steps;
 use rc_house::{Status, run_alone};
 use rc_outside::{Bytes, Room};
-use rc_steps::Steps;
 use std::alloc::{AllocError, Global};
 use std::marker::Brand;
 use std::process::Abort;

@@ -6,19 +6,19 @@ use Rattle.std.proofs.lemmas.List.{length-append, length-map}
 use Rattle.std.proofs.lemmas.List.Elements.{filter-append}
 use Rattle.std.proofs.lemmas.Bool.{cond-true, cond-false}
 use Rattle.arrayvec.specs.ArrayVec.{ArrayVec}
-use Rattle.rc_model.specs.Numbers.{below}
-use Rattle.rc_model.specs.Transcript.{Record}
+use Rattle.rc_base.specs.Numbers.{below}
+use Rattle.rc_base.specs.Transcript.{Record}
 use Rattle.rc_deck.proofs.RangeLemmas.{below_push}
-use Rattle.rc_play_model.specs.About.{About}
-use Rattle.rc_play_model.specs.Effects.{Dealing}
-use Rattle.rc_play_model.specs.Plan.{Plan}
+use Rattle.rc_play_spec.specs.About.{About}
+use Rattle.rc_play_spec.specs.Effects.{Dealing}
+use Rattle.rc_play_spec.specs.Plan.{Plan}
 use Rattle.rc_rules.specs.declared.bound.Bound.{Bound}
 use Rattle.rc_rules.specs.declared.record.MatchRecord.{MatchRecord}
 use Rattle.rc_rules.specs.Bounds.{bounds_seen, match_bounds}
 use Rattle.rc_rules.specs.Record.{pick_seen, record_seen}
-use Rattle.rc_text_model.specs.Along.{marks_from, marks_over}
-use Rattle.rc_text_model.specs.Judged.{play_after}
-use Rattle.rc_text_model.proofs.LegalLemmas.{one_each}
+use Rattle.rc_play_spec.specs.Along.{marks_from, marks_over}
+use Rattle.rc_play_spec.specs.Judged.{play_after}
+use Rattle.rc_play_spec.proofs.LegalLemmas.{one_each}
 use Rattle.rc_text.specs.BoundSeen.{all_bounds, AreFor}
 use Rattle.rc_judge.specs.Seen.{lists_seen, lists_over}
 
@@ -40,7 +40,6 @@ seen_joined [] = refl
 seen_joined (b ∷ lists) = ap (λ xs. match_bounds b ++ xs) (seen_joined lists)
 
 module _ (about : About) (dealing : ℕ → Dealing ℕ) (plan : Plan) where
-
   over_counts : (m : ℕ) (matches : List Record) → map (λ xs. length xs) (lists_over about dealing plan m matches) ≡ map (λ (r : Record). length r.picks) matches
   over_counts m [] = refl
   over_counts m (r ∷ matches) = (λ i. one_each about dealing plan m (play_after about dealing plan m []) r.picks i ∷ over_counts (m + 1) matches i)

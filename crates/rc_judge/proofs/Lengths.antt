@@ -1,7 +1,7 @@
 -- How many lines records and texts have.
 use Rattle.std.proofs.Common.{◌≡◌, ℕ, ◌+◌, ◌<◌, List, ◌∷◌, map, flat_map, drop, get_or, length, sym, ap, ◌∙◌}
 use Rattle.std.proofs.lemmas.List.{length-append}
-use Rattle.rc_text_model.specs.HouseText.{record_lines}
+use Rattle.rc_play_spec.specs.HouseText.{record_lines}
 use Rattle.rc_rules.specs.declared.record.MatchRecord.{MatchRecord}
 use Rattle.rc_rules.specs.Record.{record_seen}
 use Rattle.rc_judge.specs.Seen.{lines_in, lines_in_all}

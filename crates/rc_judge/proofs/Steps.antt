@@ -2,31 +2,31 @@
 use Rattle.std.proofs.Common.{◌≡◌, ◌≢◌, ◌↔◌, ℕ, ◌+◌, ◌<◌, ◌==◌, ◌&&◌, Bool, true, false, if◌then◌else◌, List, [], ◌∷◌, map, drop, get_or, length, unwrap_or, Option, Some, None, Result, Ok, Err, IfOk, OnOk, IsErrAnd, refl, sym, ap, subst, ◌∙◌, eqb-true}
 use Rattle.std.proofs.lemmas.List.{at_drop_more}
 use Rattle.std.proofs.lemmas.Result.{err_from_is_err_and}
-use Rattle.rc_model.specs.Transcript.{Pick, Record, Standing}
-use Rattle.rc_play_model.specs.About.{About}
-use Rattle.rc_play_model.specs.Effects.{Dealing}
-use Rattle.rc_play_model.specs.Step.{Config, Stop, decide, is_done, is_limit}
-use Rattle.rc_play_model.specs.Stop.{Stopped}
-use Rattle.rc_play_model.specs.Decision.{choose}
-use Rattle.rc_play_model.specs.Play.{stop_behind}
-use Rattle.rc_play_model.specs.Plan.{Plan, deal_at}
-use Rattle.rc_play_model.specs.Keyed.{dealing_of}
-use Rattle.rc_text_model.specs.Why.{Why as PureWhy, by_name, Illegal as PureIllegal}
-use Rattle.rc_text_model.specs.Rows.{◌or◌, unless, lacking_row, decision_row, stopped_row, named_row, chosen_row, shuffled_row, further_row}
-use Rattle.rc_text_model.specs.Judged.{at_line}
-use Rattle.rc_text_model.specs.Along.{Judging, Picked, on_row, and_then, told_along, standings_along, next_stop, picks_along, record_along, matches_along, marks_from}
+use Rattle.rc_base.specs.Transcript.{Pick, Record, Standing}
+use Rattle.rc_play_spec.specs.About.{About}
+use Rattle.rc_play_spec.specs.Effects.{Dealing}
+use Rattle.rc_play_spec.specs.Step.{Config, Stop, decide, is_done, is_limit}
+use Rattle.rc_play_spec.specs.Stop.{Stopped}
+use Rattle.rc_play_spec.specs.Decision.{choose}
+use Rattle.rc_play_spec.specs.Play.{stop_behind}
+use Rattle.rc_play_spec.specs.Plan.{Plan, deal_at}
+use Rattle.rc_play_spec.specs.Keyed.{dealing_of}
+use Rattle.rc_play_spec.specs.Why.{Why as PureWhy, by_name, Illegal as PureIllegal}
+use Rattle.rc_play_spec.specs.Rows.{◌or◌, unless, lacking_row, decision_row, stopped_row, named_row, chosen_row, shuffled_row, further_row}
+use Rattle.rc_play_spec.specs.Judged.{at_line}
+use Rattle.rc_play_spec.specs.Along.{Judging, Picked, on_row, and_then, told_along, standings_along, next_stop, picks_along, record_along, matches_along, marks_from}
 use Rattle.rc_rules.specs.declared.bound.Bound.{Bound as Bound'}
 use Rattle.rc_rules.specs.declared.bound.Bound.TheVariants.{Player, Card, Group}
 use Rattle.rc_rules.specs.contracts.bound.BoundPartialEq.TheImpl.{eq-value}
 use Rattle.rc_rules.specs.Bounds.{bound_seen}
 use Rattle.rc_rules.specs.Machine.{IsWhereItStops, bounds_here}
-use Rattle.rc_play_model.specs.ItemBounds.{Bound as PureBound, bounds_at}
-use Rattle.rc_text_model.specs.Naming.{marks_by, marks_there}
-use Rattle.rc_text_model.specs.Bounds.{is_bound, are_bounds}
+use Rattle.rc_play_spec.specs.ItemBounds.{Bound as PureBound, bounds_at}
+use Rattle.rc_play_spec.specs.Naming.{marks_by, marks_there}
+use Rattle.rc_play_spec.specs.Bounds.{is_bound, are_bounds}
 use Rattle.std.specs.Cmp.Lexicographic.{pointwise}
-use Rattle.rc_text_model.specs.HouseText.{NamedText as PureNamed, first_marks, later_marks}
-use Rattle.rc_text_model.specs.Legal.{IsLegal, IsLegalText}
-use Rattle.rc_text_model.proofs.LegalLemmas.{on_row_none, and_on, made_forth, made_goes_on, some_is}
+use Rattle.rc_play_spec.specs.HouseText.{NamedText as PureNamed, first_marks, later_marks}
+use Rattle.rc_play_spec.specs.Legal.{IsLegal, IsLegalText}
+use Rattle.rc_play_spec.proofs.LegalLemmas.{on_row_none, and_on, made_forth, made_goes_on, some_is}
 use Rattle.rc_rules.specs.declared.record.Pick.{Pick as Pick'}
 use Rattle.rc_rules.specs.Record.{pick_seen}
 use Rattle.rc_judge.specs.declared.verdict.Halt.{Halt}

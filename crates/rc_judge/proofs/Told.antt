@@ -2,12 +2,12 @@
 use Rattle.std.proofs.Common.{◌≡◌, ℕ, zero, suc, ◌+◌, ◌<◌, List, length, map, get_or, slice_get, slice_index_or, ℤ, pos, Some, arith, sym, ap, ◌∙◌}
 use Rattle.std.specs.List.{range_with_len}
 use Rattle.std.proofs.lemmas.List.FromFn.{length-map-range_with_len}
-use Rattle.rc_model.specs.Numbers.{below}
+use Rattle.rc_base.specs.Numbers.{below}
 use Rattle.rc_deck.proofs.RangeLemmas.{at_range}
-use Rattle.rc_play_model.specs.About.{About}
-use Rattle.rc_play_model.specs.Step.{Config}
-use Rattle.rc_play_model.specs.Scores.{rank_points, scores_of, score_at}
-use Rattle.rc_text_model.specs.Rows.{scores_at}
+use Rattle.rc_play_spec.specs.About.{About}
+use Rattle.rc_play_spec.specs.Step.{Config}
+use Rattle.rc_play_spec.specs.Scores.{rank_points, scores_of, score_at}
+use Rattle.rc_play_spec.specs.Rows.{scores_at}
 
 in_range : {X : Type 0} (f : ℕ → X) (a n k : ℕ) → k < n → slice_get (map f (range_with_len a n)) k ≡ Some (f (a + k))
 in_range f a zero k lt = absurd (omega (arith, lt))

@@ -2,25 +2,25 @@
 use Rattle.std.specs.Prelude.{◌≡◌, ℕ, ◌+◌, List, [], ◌∷◌, ◌++◌, length, map, flat_map, Vec, Option, Some, None, Result, Ok, Err}
 use Rattle.std.specs.Global.{Global}
 use Rattle.arrayvec.specs.ArrayVec.{ArrayVec}
-use Rattle.rc_model.specs.Transcript.{Record}
-use Rattle.rc_play_model.specs.About.{About}
-use Rattle.rc_play_model.specs.Effects.{Dealing}
-use Rattle.rc_play_model.specs.ItemBounds.{Bound as PureBound}
-use Rattle.rc_play_model.specs.Plan.{Plan}
-use Rattle.rc_play_model.specs.Step.{Config}
-use Rattle.rc_play_model.specs.Stop.{Stopped}
+use Rattle.rc_base.specs.Transcript.{Record}
+use Rattle.rc_play_spec.specs.About.{About}
+use Rattle.rc_play_spec.specs.Effects.{Dealing}
+use Rattle.rc_play_spec.specs.ItemBounds.{Bound as PureBound}
+use Rattle.rc_play_spec.specs.Plan.{Plan}
+use Rattle.rc_play_spec.specs.Step.{Config}
+use Rattle.rc_play_spec.specs.Stop.{Stopped}
 use Rattle.rc_rules.specs.declared.control.Stop.{Stop}
 use Rattle.rc_rules.specs.declared.record.MatchRecord.{MatchRecord}
 use Rattle.rc_rules.specs.declared.bound.Bound.{Bound}
 use Rattle.rc_rules.specs.Bounds.{bounds_seen, match_bounds}
 use Rattle.rc_rules.specs.Control.{stop_seen}
 use Rattle.rc_rules.specs.Record.{record_seen}
-use Rattle.rc_text_model.specs.HouseText.{record_lines}
-use Rattle.rc_text_model.specs.Why.{Why as PureWhy, by_match, by_shuffle, by_seat, by_menu, by_item, by_name, by_end, by_score, by_standing, Illegal as PureIllegal}
-use Rattle.rc_text_model.specs.Along.{Judging, marks_from}
-use Rattle.rc_text_model.specs.Bounds.{are_bounds}
-use Rattle.rc_text_model.specs.Judged.{play_after}
-use Rattle.rc_text_model.specs.Rows.{unless}
+use Rattle.rc_play_spec.specs.HouseText.{record_lines}
+use Rattle.rc_play_spec.specs.Why.{Why as PureWhy, by_match, by_shuffle, by_seat, by_menu, by_item, by_name, by_end, by_score, by_standing, Illegal as PureIllegal}
+use Rattle.rc_play_spec.specs.Along.{Judging, marks_from}
+use Rattle.rc_play_spec.specs.Bounds.{are_bounds}
+use Rattle.rc_play_spec.specs.Judged.{play_after}
+use Rattle.rc_play_spec.specs.Rows.{unless}
 use Rattle.rc_text.specs.BoundSeen.{all_bounds}
 use Rattle.rc_judge.specs.declared.verdict.Why.{Why}
 use Rattle.rc_judge.specs.declared.verdict.Why.TheVariants.{Match, Shuffle, Seat, Menu, Item, Named as NamedOtherwise, End, Score, Standing}

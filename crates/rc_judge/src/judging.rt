@@ -1,19 +1,19 @@
 //! The judge of whole house texts.
 ghost use Rattle.std.specs.Prelude.{◌≡◌, ◌+◌, ◌++◌, ◌<◌, ◌≤◌, ◌^◌, ◌↔◌, [], List, Option, length, map, true, is_ok, None, All, IfOk, OnOk};
-ghost use Rattle.rc_model.specs.Transcript.{Record};
-ghost use Rattle.rc_model.specs.Limits.{most_matches};
-ghost use Rattle.rc_play_model.specs.Keyed.{dealing_of};
-ghost use Rattle.rc_play_model.specs.House as house;
-ghost use Rattle.rc_play_model.specs.Plan.{Plan as PurePlan};
-ghost use Rattle.rc_plan_model.specs.Limits.{IsWithinLimits};
-ghost use Rattle.rc_text_model.specs.HouseText.{IsHouseText, IsText, lines_of, unmarked};
-ghost use Rattle.rc_text_model.specs.Naming.{legend_of};
-ghost use Rattle.rc_text_model.specs.Along as along;
-ghost use Rattle.rc_text_model.specs.Rows as rows;
-ghost use Rattle.rc_text_model.specs.Judged.{first_illegal};
-ghost use Rattle.rc_text_model.specs.Legal.{IsLegal, IsLegalText};
-ghost use Rattle.rc_text_model.specs.PlayedLaws as played;
-ghost use Rattle.rc_text_model.specs.Why.{Illegal};
+ghost use Rattle.rc_base.specs.Transcript.{Record};
+ghost use Rattle.rc_base.specs.Limits.{most_matches};
+ghost use Rattle.rc_play_spec.specs.Keyed.{dealing_of};
+ghost use Rattle.rc_play_spec.specs.House as house;
+ghost use Rattle.rc_play_spec.specs.Plan.{Plan as PurePlan};
+ghost use Rattle.rc_play_spec.specs.Limits.{IsWithinLimits};
+ghost use Rattle.rc_play_spec.specs.HouseText.{IsHouseText, IsText, lines_of, unmarked};
+ghost use Rattle.rc_play_spec.specs.Naming.{legend_of};
+ghost use Rattle.rc_play_spec.specs.Along as along;
+ghost use Rattle.rc_play_spec.specs.Rows as rows;
+ghost use Rattle.rc_play_spec.specs.Judged.{first_illegal};
+ghost use Rattle.rc_play_spec.specs.Legal.{IsLegal, IsLegalText};
+ghost use Rattle.rc_play_spec.specs.PlayedLaws as played;
+ghost use Rattle.rc_play_spec.specs.Why.{Illegal};
 ghost use Rattle.rc_judge.specs.declared.verdict.Verdict.TheVariants.{Legal};
 ghost use Rattle.rc_rules.specs.Plan.{plan_seen, IsPlanFor};
 ghost use Rattle.rc_rules.specs.Record.{record_seen, standing_seen};
@@ -27,9 +27,9 @@ use crate::playing::record_along;
 use crate::rows::ranked_row;
 use crate::verdict::{Halt, Named, Verdict, Why, on_row};
 use rc_deck::Memory;
+use rc_play_spec::{legal_exactly, one_pass_judges, texts_are_of_lines};
 use rc_rules::{About, MatchRecord, Plan, Standing};
 use rc_text::{HouseText, NamedText, standings};
-use rc_text_model::{legal_exactly, one_pass_judges, texts_are_of_lines};
 use std::alloc::Global;
 
 /// Judges a house text by what its matches are played by and a plan: `Legal`, or the first illegal line and why. The

@@ -1,6 +1,6 @@
 //! How long a legend is.
 ghost use Rattle.std.specs.Prelude.{◌≡◌, ◌≤◌, length};
-ghost use Rattle.rc_text_model.specs.Naming.{face_numbers};
+ghost use Rattle.rc_play_spec.specs.Naming.{face_numbers};
 
 use rc_table::{Shape, face_number};
 

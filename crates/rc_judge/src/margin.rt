@@ -1,7 +1,7 @@
 //! What stands beside the choose lines of a text while it is judged.
 ghost use Rattle.std.specs.Prelude.{◌≡◌, ◌<◌, ◌++◌, ◌∷◌, [], Bool, true, false, List, ℕ, length, IfOk, OnOk};
-ghost use Rattle.rc_play_model.specs.ItemBounds.{Bound as PureBound};
-ghost use Rattle.rc_text_model.specs.HouseText.{first_marks, later_marks};
+ghost use Rattle.rc_play_spec.specs.ItemBounds.{Bound as PureBound};
+ghost use Rattle.rc_play_spec.specs.HouseText.{first_marks, later_marks};
 ghost use Rattle.rc_rules.specs.Bounds.{bounds_seen, match_bounds};
 ghost use Rattle.rc_rules.specs.Machine.{StopsAtDecision, bounds_here, menu_here};
 ghost use Rattle.rc_judge.specs.Seen.{row_seen, marks_row, marks_left, lists_seen};

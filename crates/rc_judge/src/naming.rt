@@ -1,10 +1,10 @@
 //! What the items of a legal text bind.
 ghost use Rattle.std.specs.Prelude.{◌≡◌, ◌+◌, ◌≤◌, length, true, IfOk};
-ghost use Rattle.rc_play_model.specs.Keyed.{dealing_of};
-ghost use Rattle.rc_plan_model.specs.Limits.{IsWithinLimits};
-ghost use Rattle.rc_text_model.specs.HouseText.{IsHouseText, lines_of};
-ghost use Rattle.rc_text_model.specs.Legal.{IsLegal};
-ghost use Rattle.rc_text_model.specs.PlayedLaws.{told_in};
+ghost use Rattle.rc_play_spec.specs.Keyed.{dealing_of};
+ghost use Rattle.rc_play_spec.specs.Limits.{IsWithinLimits};
+ghost use Rattle.rc_play_spec.specs.HouseText.{IsHouseText, lines_of};
+ghost use Rattle.rc_play_spec.specs.Legal.{IsLegal};
+ghost use Rattle.rc_play_spec.specs.PlayedLaws.{told_in};
 ghost use Rattle.rc_rules.specs.Plan.{plan_seen, IsPlanFor};
 ghost use Rattle.rc_text.specs.House.{house_text_seen, named_seen, Fits};
 

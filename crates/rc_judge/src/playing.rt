@@ -1,11 +1,11 @@
 //! The play of a match, as its record tells it.
 ghost use Rattle.std.specs.Prelude.{◌≡◌, ℕ, ◌+◌, ◌++◌, ◌<◌, ◌≤◌, ◌^◌, [], true, false, length, map, Some, IfOk, OnOk};
-ghost use Rattle.rc_play_model.specs.Step.{start, Config};
-ghost use Rattle.rc_play_model.specs.Plan.{Plan as PurePlan, deal_at};
-ghost use Rattle.rc_text_model.specs.HouseText.{shuffles_told};
-ghost use Rattle.rc_play_model.specs.Keyed.{dealing_of};
-ghost use Rattle.rc_text_model.specs.Along as along;
-ghost use Rattle.rc_text_model.specs.Judged.{play_after};
+ghost use Rattle.rc_play_spec.specs.Step.{start, Config};
+ghost use Rattle.rc_play_spec.specs.Plan.{Plan as PurePlan, deal_at};
+ghost use Rattle.rc_play_spec.specs.HouseText.{shuffles_told};
+ghost use Rattle.rc_play_spec.specs.Keyed.{dealing_of};
+ghost use Rattle.rc_play_spec.specs.Along as along;
+ghost use Rattle.rc_play_spec.specs.Judged.{play_after};
 ghost use Rattle.rc_rules.specs.Control.{stop_seen, stopped_of};
 ghost use Rattle.rc_rules.specs.Plan.{plan_seen};
 ghost use Rattle.rc_rules.specs.Record.{pick_seen, score_seen, record_seen};

@@ -1,11 +1,11 @@
 //! The rows that apply to a line, by where the play stands.
 ghost use Rattle.std.specs.Prelude.{◌≡◌, ◌<◌, false, true, length, map, slice_get, Some, None, ℕ};
-ghost use Rattle.rc_model.specs.Numbers.{below};
-ghost use Rattle.rc_play_model.specs.Step.{Config, decide};
-ghost use Rattle.rc_play_model.specs.Scores as play;
-ghost use Rattle.rc_play_model.specs.About.{About as PureAbout};
-ghost use Rattle.rc_text_model.specs.Rows as rows;
-ghost use Rattle.rc_text_model.specs.Why.{by_standing};
+ghost use Rattle.rc_base.specs.Numbers.{below};
+ghost use Rattle.rc_play_spec.specs.Step.{Config, decide};
+ghost use Rattle.rc_play_spec.specs.Scores as play;
+ghost use Rattle.rc_play_spec.specs.About.{About as PureAbout};
+ghost use Rattle.rc_play_spec.specs.Rows as rows;
+ghost use Rattle.rc_play_spec.specs.Why.{by_standing};
 ghost use Rattle.rc_rules.specs.Control.{stop_seen, stopped_of};
 ghost use Rattle.rc_rules.specs.Plan.{plan_seen};
 ghost use Rattle.rc_rules.specs.Record.{pick_seen, ending_seen, score_seen, standing_seen};

@@ -1,6 +1,6 @@
 //! What the judge finds.
 ghost use Rattle.std.specs.Prelude.{◌≡◌, None, OnOk};
-ghost use Rattle.rc_text_model.specs.Judged.{at_line};
+ghost use Rattle.rc_play_spec.specs.Judged.{at_line};
 ghost use Rattle.rc_judge.specs.Seen.{Finds, row_seen};
 
 use rc_deck::Memory;

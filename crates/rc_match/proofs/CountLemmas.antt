@@ -6,22 +6,22 @@ use Rattle.std.proofs.lemmas.List.{length-append, take_all}
 use Rattle.std.proofs.lemmas.List.Concat.{length-flat_map}
 use Rattle.std.proofs.lemmas.List.Sums.{count_by_more_yes, count_by_more_no, sum_by-cons}
 use Rattle.std.proofs.lemmas.Option.{get_or_from_slice_get}
-use Rattle.rc_model.specs.Numbers.{below}
-use Rattle.rc_model.specs.Transcript.{Pick, Record}
-use Rattle.rc_sheet_model.specs.Sight.{IsInSight}
-use Rattle.rc_sheet_model.specs.WellFormed.{IsWellFormed}
-use Rattle.rc_play_model.specs.Shape.{shape_of}
-use Rattle.rc_play_model.specs.View.{View}
-use Rattle.rc_play_model.specs.About.{About}
-use Rattle.rc_play_model.specs.Step.{Config, Stop, decide}
-use Rattle.rc_play_model.specs.Play.{Played}
-use Rattle.rc_play_model.specs.Scores.{record_of}
-use Rattle.rc_play_model.specs.Plan.{Strategy, scripted, random, rollout, Plan, strategy_at, deal_at}
-use Rattle.rc_play_model.specs.Keyed.{dealing_of, choice_of, reached_in, keyed_play, keyed_match}
-use Rattle.rc_play_model.specs.MatchLaws.{first_items, FrontsAreReached}
-use Rattle.rc_play_model.proofs.FollowLemmas.{mapped}
-use Rattle.rc_play_model.proofs.MatchLemmas.{keyed_taken}
-use Rattle.rc_play_model.proofs.PlayLemmas.{match_recorded}
+use Rattle.rc_base.specs.Numbers.{below}
+use Rattle.rc_base.specs.Transcript.{Pick, Record}
+use Rattle.rc_sheet_spec.specs.Sight.{IsInSight}
+use Rattle.rc_sheet_spec.specs.WellFormed.{IsWellFormed}
+use Rattle.rc_play_spec.specs.Shape.{shape_of}
+use Rattle.rc_play_spec.specs.View.{View}
+use Rattle.rc_play_spec.specs.About.{About}
+use Rattle.rc_play_spec.specs.Step.{Config, Stop, decide}
+use Rattle.rc_play_spec.specs.Play.{Played}
+use Rattle.rc_play_spec.specs.Scores.{record_of}
+use Rattle.rc_play_spec.specs.Plan.{Strategy, scripted, random, rollout, Plan, strategy_at, deal_at}
+use Rattle.rc_play_spec.specs.Keyed.{dealing_of, choice_of, reached_in, keyed_play, keyed_match}
+use Rattle.rc_play_spec.specs.MatchLaws.{first_items, FrontsAreReached}
+use Rattle.rc_play_spec.proofs.FollowLemmas.{mapped}
+use Rattle.rc_play_spec.proofs.MatchLemmas.{keyed_taken}
+use Rattle.rc_play_spec.proofs.PlayLemmas.{match_recorded}
 use Rattle.rc_redraw.specs.Choosing.{asked_by}
 use Rattle.rc_match.specs.Asks.{asked_there, asked_where, asked_first, asked_in, decisions_in, asks_of}
 use Rattle.rc_match.specs.AskCounts.{is_rollout, rollout_picks, EachRolloutPickAsks, AllRolloutPicksAsk}

@@ -2,23 +2,23 @@
 use Rattle.std.proofs.Common.{◌≡◌, ℕ, suc, ◌<◌, Bool, true, false, List, [], ◌∷◌, ◌++◌, length, map, Option, Some, None, refl, sym, ap, ◌∙◌, append_assoc, append-nil, arith}
 use Rattle.std.specs.Prelude.{unwrap_or}
 use Rattle.std.proofs.lemmas.List.{length-map, map-append}
-use Rattle.rc_model.specs.Transcript.{Pick, Record}
-use Rattle.rc_sheet_model.specs.Sight.{IsInSight}
-use Rattle.rc_sheet_model.specs.WellFormed.{IsWellFormed}
-use Rattle.rc_play_model.specs.About.{About}
-use Rattle.rc_play_model.specs.Step.{Config, Stop, decide, is_done, is_limit}
-use Rattle.rc_play_model.specs.Stop.{Stopped}
-use Rattle.rc_play_model.specs.Play.{items_of, reached}
-use Rattle.rc_play_model.specs.Shape.{shape_of}
-use Rattle.rc_play_model.specs.ItemBounds.{Bound, bounds_at}
-use Rattle.rc_play_model.specs.Plan.{Plan, deal_at}
-use Rattle.rc_play_model.specs.Keyed.{dealing_of, reached_in}
-use Rattle.rc_play_model.proofs.ChoiceLemmas.{choice-lt}
-use Rattle.rc_play_model.proofs.FollowLemmas.{mapped}
-use Rattle.rc_text_model.specs.Along.{next_stop as stop_behind_pick, marks_from}
-use Rattle.rc_text_model.specs.Judged.{play_after}
-use Rattle.rc_text_model.specs.Naming.{marks_there}
-use Rattle.rc_text_model.proofs.GoesOn.{reached_append}
+use Rattle.rc_base.specs.Transcript.{Pick, Record}
+use Rattle.rc_sheet_spec.specs.Sight.{IsInSight}
+use Rattle.rc_sheet_spec.specs.WellFormed.{IsWellFormed}
+use Rattle.rc_play_spec.specs.About.{About}
+use Rattle.rc_play_spec.specs.Step.{Config, Stop, decide, is_done, is_limit}
+use Rattle.rc_play_spec.specs.Stop.{Stopped}
+use Rattle.rc_play_spec.specs.Play.{items_of, reached}
+use Rattle.rc_play_spec.specs.Shape.{shape_of}
+use Rattle.rc_play_spec.specs.ItemBounds.{Bound, bounds_at}
+use Rattle.rc_play_spec.specs.Plan.{Plan, deal_at}
+use Rattle.rc_play_spec.specs.Keyed.{dealing_of, reached_in}
+use Rattle.rc_play_spec.proofs.ChoiceLemmas.{choice-lt}
+use Rattle.rc_play_spec.proofs.FollowLemmas.{mapped}
+use Rattle.rc_play_spec.specs.Along.{next_stop as stop_behind_pick, marks_from}
+use Rattle.rc_play_spec.specs.Judged.{play_after}
+use Rattle.rc_play_spec.specs.Naming.{marks_there}
+use Rattle.rc_play_spec.proofs.GoesOn.{reached_append}
 use Rattle.rc_rules.specs.Machine.{menu_here}
 use Rattle.rc_redraw.specs.Need.{IsNeed}
 use Rattle.rc_match.specs.Lane.{Phase, ready, asks, missed, holds, over, spent, MatchLane, pick_here, noted, next_stop, need_at, notes_at, lane_at, stepped}

@@ -1,12 +1,12 @@
 -- What strategies pick that ask nothing of playouts is what they choose.
 use Rattle.std.proofs.Common.{◌≡◌, ℕ, ◌+◌, ◌*◌, Option, slice_index, refl, sym, ap, ◌∙◌, subst}
 use Rattle.std.specs.Prelude.{IfSome}
-use Rattle.rc_play_model.specs.About.{About}
-use Rattle.rc_play_model.specs.Control.{Control}
-use Rattle.rc_play_model.specs.Draws.{keyed}
-use Rattle.rc_play_model.specs.Plan.{Strategy, scripted, random, rollout}
-use Rattle.rc_play_model.specs.Strategy.{scripted_item, menu_size}
-use Rattle.rc_play_model.specs.View.{View}
+use Rattle.rc_play_spec.specs.About.{About}
+use Rattle.rc_play_spec.specs.Control.{Control}
+use Rattle.rc_play_spec.specs.Draws.{keyed}
+use Rattle.rc_play_spec.specs.Plan.{Strategy, scripted, random, rollout}
+use Rattle.rc_play_spec.specs.Strategy.{scripted_item, menu_size}
+use Rattle.rc_play_spec.specs.View.{View}
 use Rattle.rc_match.specs.Chosen.{IsOffhand}
 use Rattle.rc_rules.specs.Offhand.{offhand_of}
 use Rattle.rc_match.proofs.NeedLemmas.{need}

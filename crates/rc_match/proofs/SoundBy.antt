@@ -3,32 +3,32 @@ use Rattle.std.proofs.Common.{◌≡◌, ℕ, zero, suc, ◌<◌, ◌≤◌, nat
 use Rattle.std.specs.Prelude.{option_map, unwrap_or}
 use Rattle.std.proofs.lemmas.Bool.{leb-true, leb-false}
 use Rattle.std.proofs.lemmas.List.{take_all}
-use Rattle.rc_model.specs.Transcript.{Pick, Record, Ending, done, limit}
-use Rattle.rc_sheet_model.specs.Sight.{IsInSight}
-use Rattle.rc_sheet_model.specs.WellFormed.{IsWellFormed}
-use Rattle.rc_play_model.specs.Control.{Control}
-use Rattle.rc_play_model.specs.Table.{Table}
-use Rattle.rc_play_model.specs.Owners.{mover}
-use Rattle.rc_play_model.specs.Shape.{shape_of}
-use Rattle.rc_play_model.specs.View.{view_of}
-use Rattle.rc_play_model.specs.Menu.{menu_from}
-use Rattle.rc_play_model.specs.About.{About, scene_at, menu_at}
-use Rattle.rc_play_model.specs.Effects.{Dealing}
-use Rattle.rc_play_model.specs.Step.{Config, Stop, decide, is_done, is_limit}
-use Rattle.rc_play_model.specs.Stop.{Stopped}
-use Rattle.rc_play_model.specs.Play.{items_of, Played, pick_at, stop_for}
-use Rattle.rc_play_model.specs.Scores.{record_of}
-use Rattle.rc_play_model.specs.Fits.{IsDecision, IsEnd}
-use Rattle.rc_play_model.specs.Plan.{Plan, deal_at}
-use Rattle.rc_play_model.specs.Strategy.{menu_size}
-use Rattle.rc_play_model.specs.Keyed.{dealing_of, reached_in}
-use Rattle.rc_play_model.proofs.ChoiceLemmas.{size_of_view}
-use Rattle.rc_play_model.proofs.FitLemmas.{picks_fit}
-use Rattle.rc_play_model.proofs.FollowLemmas.{mapped, play_leads}
-use Rattle.rc_play_model.proofs.FrontLemmas.{front_reached}
-use Rattle.rc_play_model.proofs.NextLemmas.{pick_taken}
-use Rattle.rc_play_model.proofs.PlacedLemmas.{IsPlaced, first_placed}
-use Rattle.rc_play_model.proofs.PlayLemmas.{play_ends}
+use Rattle.rc_base.specs.Transcript.{Pick, Record, Ending, done, limit}
+use Rattle.rc_sheet_spec.specs.Sight.{IsInSight}
+use Rattle.rc_sheet_spec.specs.WellFormed.{IsWellFormed}
+use Rattle.rc_play_spec.specs.Control.{Control}
+use Rattle.rc_play_spec.specs.Table.{Table}
+use Rattle.rc_play_spec.specs.Owners.{mover}
+use Rattle.rc_play_spec.specs.Shape.{shape_of}
+use Rattle.rc_play_spec.specs.View.{view_of}
+use Rattle.rc_play_spec.specs.Menu.{menu_from}
+use Rattle.rc_play_spec.specs.About.{About, scene_at, menu_at}
+use Rattle.rc_play_spec.specs.Effects.{Dealing}
+use Rattle.rc_play_spec.specs.Step.{Config, Stop, decide, is_done, is_limit}
+use Rattle.rc_play_spec.specs.Stop.{Stopped}
+use Rattle.rc_play_spec.specs.Play.{items_of, Played, pick_at, stop_for}
+use Rattle.rc_play_spec.specs.Scores.{record_of}
+use Rattle.rc_play_spec.specs.Fits.{IsDecision, IsEnd}
+use Rattle.rc_play_spec.specs.Plan.{Plan, deal_at}
+use Rattle.rc_play_spec.specs.Strategy.{menu_size}
+use Rattle.rc_play_spec.specs.Keyed.{dealing_of, reached_in}
+use Rattle.rc_play_spec.proofs.ChoiceLemmas.{size_of_view}
+use Rattle.rc_play_spec.proofs.FitLemmas.{picks_fit}
+use Rattle.rc_play_spec.proofs.FollowLemmas.{mapped, play_leads}
+use Rattle.rc_play_spec.proofs.FrontLemmas.{front_reached}
+use Rattle.rc_play_spec.proofs.NextLemmas.{pick_taken}
+use Rattle.rc_play_spec.proofs.PlacedLemmas.{IsPlaced, first_placed}
+use Rattle.rc_play_spec.proofs.PlayLemmas.{play_ends}
 use Rattle.rc_rules.specs.Machine.{menu_here}
 use Rattle.rc_rules.proofs.MenuLemmas.{menu_there}
 use Rattle.rc_redraw.specs.Need.{Need}

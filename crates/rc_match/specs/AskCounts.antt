@@ -1,13 +1,13 @@
 -- Statements of laws: matches ask playouts once for each pick of a seat that has a rollout strategy.
 use Rattle.std.specs.Prelude.{◌≡◌, ℕ, Bool, true, false, length, count_by, sum_by, flat_map, filter_map, Some}
-use Rattle.rc_model.specs.Numbers.{below}
-use Rattle.rc_model.specs.Transcript.{Record}
-use Rattle.rc_sheet_model.specs.Sight.{IsInSight}
-use Rattle.rc_sheet_model.specs.WellFormed.{IsWellFormed}
-use Rattle.rc_play_model.specs.Shape.{shape_of}
-use Rattle.rc_play_model.specs.About.{About}
-use Rattle.rc_play_model.specs.Plan.{Strategy, scripted, random, rollout, Plan, strategy_at}
-use Rattle.rc_play_model.specs.Keyed.{keyed_match}
+use Rattle.rc_base.specs.Numbers.{below}
+use Rattle.rc_base.specs.Transcript.{Record}
+use Rattle.rc_sheet_spec.specs.Sight.{IsInSight}
+use Rattle.rc_sheet_spec.specs.WellFormed.{IsWellFormed}
+use Rattle.rc_play_spec.specs.Shape.{shape_of}
+use Rattle.rc_play_spec.specs.About.{About}
+use Rattle.rc_play_spec.specs.Plan.{Strategy, scripted, random, rollout, Plan, strategy_at}
+use Rattle.rc_play_spec.specs.Keyed.{keyed_match}
 use Rattle.rc_match.specs.Asks.{asks_of}
 
 abbrev pub is_rollout : Strategy → Bool

@@ -1,8 +1,8 @@
 -- The match of a plan that a job stands for.
 use Rattle.std.specs.Prelude.{◌≡◌, ◌<◌, ℕ, length}
-use Rattle.rc_play_model.specs.About.{About}
-use Rattle.rc_play_model.specs.Keyed.{dealing_of}
-use Rattle.rc_play_model.specs.Plan.{Plan, deal_at}
+use Rattle.rc_play_spec.specs.About.{About}
+use Rattle.rc_play_spec.specs.Keyed.{dealing_of}
+use Rattle.rc_play_spec.specs.Plan.{Plan, deal_at}
 use Rattle.rc_rules.specs.Dealer.{Dealt}
 use Rattle.rc_rules.specs.Plan.{plan_seen, IsPlanFor}
 use Rattle.rc_match.specs.declared.job.Job.{Job}

@@ -1,13 +1,13 @@
 -- What is noted of what the choices of a match bind, where that is asked for.
 use Rattle.std.specs.Prelude.{◌≡◌, ℕ, Bool, true, false, List, [], ◌∷◌, Option, Some, None}
-use Rattle.rc_model.specs.Transcript.{Pick}
-use Rattle.rc_play_model.specs.About.{About}
-use Rattle.rc_play_model.specs.ItemBounds.{Bound}
-use Rattle.rc_play_model.specs.Keyed.{dealing_of}
-use Rattle.rc_play_model.specs.Plan.{Plan}
-use Rattle.rc_play_model.specs.Step.{Config}
-use Rattle.rc_text_model.specs.Along.{marks_from}
-use Rattle.rc_text_model.specs.Judged.{play_after}
+use Rattle.rc_base.specs.Transcript.{Pick}
+use Rattle.rc_play_spec.specs.About.{About}
+use Rattle.rc_play_spec.specs.ItemBounds.{Bound}
+use Rattle.rc_play_spec.specs.Keyed.{dealing_of}
+use Rattle.rc_play_spec.specs.Plan.{Plan}
+use Rattle.rc_play_spec.specs.Step.{Config}
+use Rattle.rc_play_spec.specs.Along.{marks_from}
+use Rattle.rc_play_spec.specs.Judged.{play_after}
 use Rattle.rc_rules.specs.Bounds.{match_bounds}
 use Rattle.rc_rules.specs.Machine.{bounds_here}
 use Rattle.rc_rules.specs.Record.{record_seen}

@@ -1,7 +1,7 @@
 //! What is picked at a stop of a match that is played at once.
 ghost use Rattle.std.specs.Prelude.{◌≡◌, ◌<◌, ◌++◌, false, length, Some, IfSome, IfOk, OnOk, OnErr};
-ghost use Rattle.rc_play_model.specs.About.{About as PureAbout};
-ghost use Rattle.rc_play_model.specs.Owners.{mover};
+ghost use Rattle.rc_play_spec.specs.About.{About as PureAbout};
+ghost use Rattle.rc_play_spec.specs.Owners.{mover};
 ghost use Rattle.rc_redraw.specs.Choosing.{AsksAll, AsksSome, asked_for};
 ghost use Rattle.rc_redraw.specs.Need.{IsNeed};
 ghost use Rattle.rc_rules.specs.Bounds.{match_bounds};
@@ -16,10 +16,10 @@ ghost use Rattle.rc_match.specs.Lane.{asks, need_at, notes_at, phase_at};
 use crate::ending::complete;
 use crate::job::{Job, deal_of, strategy_of};
 use crate::stepping::need_of;
+use rc_base::Steps;
 use rc_deck::Memory;
 use rc_redraw::Chooser;
 use rc_rules::{Bounds, Ended, Machine, MatchDealer, MatchRecord, Stop, offhand_of};
-use rc_steps::Steps;
 use std::alloc::Global;
 use std::sync::ledger::Ledger;
 

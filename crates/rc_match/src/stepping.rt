@@ -1,10 +1,10 @@
 //! The step of a match from one stop to the next.
 ghost use Rattle.std.specs.Prelude.{◌≡◌, ◌<◌, false, length, Some, IfSome, IfOk, OnOk, OnErr};
-ghost use Rattle.rc_play_model.specs.Owners.{mover};
-ghost use Rattle.rc_play_model.specs.Step.{goes};
-ghost use Rattle.rc_play_model.specs.Stop.{stop_of};
-ghost use Rattle.rc_play_model.specs.Decision.{choose};
-ghost use Rattle.rc_play_model.specs.Keyed.{dealing_of};
+ghost use Rattle.rc_play_spec.specs.Owners.{mover};
+ghost use Rattle.rc_play_spec.specs.Step.{goes};
+ghost use Rattle.rc_play_spec.specs.Stop.{stop_of};
+ghost use Rattle.rc_play_spec.specs.Decision.{choose};
+ghost use Rattle.rc_play_spec.specs.Keyed.{dealing_of};
 ghost use Rattle.rc_rules.specs.Control.{stop_seen};
 ghost use Rattle.rc_rules.specs.Record.{pick_seen, ending_seen, record_seen};
 ghost use Rattle.rc_rules.specs.Machine.{StopsAtDecision, IsWhereItStops, menu_here};
@@ -17,8 +17,8 @@ ghost use Rattle.rc_match.specs.Way.{IsOnWay, HasMorePicks};
 use crate::ending::complete;
 use crate::job::{Job, deal_of, strategy_of};
 use crate::lane::Phase;
+use rc_base::Class;
 use rc_deck::Memory;
-use rc_names::Class;
 use rc_redraw::Need;
 use rc_rules::{About, Ended, Machine, MatchDealer, MatchRecord, Pick, Stop, current_in};
 use rc_view::view_of;

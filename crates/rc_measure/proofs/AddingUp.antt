@@ -3,8 +3,8 @@ use Rattle.std.proofs.Common.{◌≡◌, ℕ, suc, ◌+◌, ◌<◌, ◌≤◌, 
 use Rattle.std.specs.List.{AllByRecursion}
 use Rattle.std.proofs.lemmas.List.{length-append}
 use Rattle.std.proofs.lemmas.List.Sums.{sum_by-cons, sum_by-append, count_by-le-length}
-use Rattle.rc_model.specs.Numbers.{below}
-use Rattle.rc_model.specs.Transcript.{Pick, Record}
+use Rattle.rc_base.specs.Numbers.{below}
+use Rattle.rc_base.specs.Transcript.{Pick, Record}
 use Rattle.rc_measure.specs.Tally.{Test, every, tally_where, picks_where, is_forced}
 use Rattle.rc_measure.specs.Laws.{EachPick}
 use Rattle.rc_measure.proofs.Sums.{sum_same, sum_none, sum_plus, length_is_sum, class_weights}

@@ -9,14 +9,14 @@ use Rattle.std.specs.Int.{int_max, int_min}
 use Rattle.std.proofs.lemmas.List.{get_or_append_left, get_or_push, take-map, map-append}
 use Rattle.std.proofs.lemmas.List.FromFn.{fill_by_all, get_or-map-range_with_len}
 use Rattle.std.proofs.lemmas.Bool.{cond_both, and_parts, and_from, and_left, and_right, cases_eq}
-use Rattle.rc_model.specs.Numbers.{below}
-use Rattle.rc_model.specs.Clamp.{IsWithinClamp}
-use Rattle.rc_play_model.specs.Plan.{Plan}
-use Rattle.rc_play_model.specs.House.{points_in, points_of}
+use Rattle.rc_base.specs.Numbers.{below}
+use Rattle.rc_base.specs.Clamp.{IsWithinClamp}
+use Rattle.rc_play_spec.specs.Plan.{Plan}
+use Rattle.rc_play_spec.specs.House.{points_in, points_of}
 use Rattle.rc_measure.specs.Scores.{spread_of, spread_in}
 use Rattle.rc_measure.specs.Leads.{leader, leader_after, changes_at}
 use Rattle.rc_text.proofs.Below.{last as range_more}
-use Rattle.rc_model.specs.Transcript.{Record}
+use Rattle.rc_base.specs.Transcript.{Record}
 use Rattle.rc_deck.proofs.RangeLemmas.{below_push}
 use Rattle.rc_rules.specs.declared.record.Score.{Score as CodeScore}
 use Rattle.rc_rules.specs.declared.record.MatchRecord.{MatchRecord}

@@ -4,8 +4,8 @@ use Rattle.std.proofs.lemmas.Bool.{eqb-true, eqb-false}
 use Rattle.std.proofs.lemmas.Grind.{get_or-set_at}
 use Rattle.std.proofs.lemmas.List.{get_or_default, get_or-replicate, get_or-set_other, length-set, length-replicate}
 use Rattle.std.proofs.lemmas.List.Sums.{sum_by-append}
-use Rattle.rc_model.specs.Transcript.{Pick as PurePick}
-use Rattle.rc_play_model.specs.Plan.{Plan}
+use Rattle.rc_base.specs.Transcript.{Pick as PurePick}
+use Rattle.rc_play_spec.specs.Plan.{Plan}
 use Rattle.rc_rules.specs.declared.record.Pick.{Pick}
 use Rattle.rc_rules.specs.declared.record.MatchRecord.{MatchRecord}
 use Rattle.rc_rules.specs.Record.{pick_seen, record_seen}

@@ -4,10 +4,10 @@ use Rattle.std.specs.List.{AllByRecursion, range_with_len}
 use Rattle.std.proofs.lemmas.Bool.{cond-true, cond-false, lt-ltb, le-ltb, eq-eqb, eqb-true, cases_lt, both_ways}
 use Rattle.std.proofs.lemmas.List.Sums.{sum_by-cons, count_by-le-length, fails_before_first, passes_at_first}
 use Rattle.std.proofs.lemmas.List.FromFn.{length-range_with_len}
-use Rattle.rc_model.specs.Transcript.{Record}
+use Rattle.rc_base.specs.Transcript.{Record}
 use Rattle.rc_deck.proofs.EachLemmas.{at_most_each}
-use Rattle.rc_play_model.specs.Plan.{Plan}
-use Rattle.rc_play_model.specs.House.{ahead}
+use Rattle.rc_play_spec.specs.Plan.{Plan}
+use Rattle.rc_play_spec.specs.House.{ahead}
 use Rattle.rc_measure.specs.Leads.{leader, leads_in, changes_at}
 use Rattle.rc_measure.specs.Laws.{IsLeader}
 

@@ -1,9 +1,9 @@
 -- The lists of measures have the numbers of their lines.
 use Rattle.std.proofs.Common.{◌≡◌, ℕ, List, [], ◌∷◌, length, map, ℤ, refl}
 use Rattle.std.specs.List.{AllByRecursion}
-use Rattle.rc_model.specs.Numbers.{below}
-use Rattle.rc_model.specs.Transcript.{Record}
-use Rattle.rc_play_model.specs.Plan.{Plan}
+use Rattle.rc_base.specs.Numbers.{below}
+use Rattle.rc_base.specs.Transcript.{Record}
+use Rattle.rc_play_spec.specs.Plan.{Plan}
 use Rattle.rc_measure.specs.Measures.{measures_of, site_row, sites_met, seat_row, strategy_row}
 use Rattle.rc_measure.specs.Text.{HasNumbers}
 

@@ -4,10 +4,10 @@ use Rattle.std.specs.List.{AllByRecursion, list_all, range_with_len}
 use Rattle.std.proofs.lemmas.Bool.{and_from, cond-true, le-leb}
 use Rattle.std.proofs.lemmas.List.FromFn.{get_or-range_with_len, get_or-map-range_with_len, length-range_with_len, length-map-range_with_len}
 use Rattle.std.proofs.lemmas.List.Sums.{sum_by-cons, get_or-le-sum_by}
-use Rattle.rc_model.specs.Numbers.{below}
-use Rattle.rc_model.specs.Transcript.{Record}
-use Rattle.rc_play_model.specs.Plan.{Plan, strategy_held}
-use Rattle.rc_play_model.specs.House.{points_at, points_in}
+use Rattle.rc_base.specs.Numbers.{below}
+use Rattle.rc_base.specs.Transcript.{Record}
+use Rattle.rc_play_spec.specs.Plan.{Plan, strategy_held}
+use Rattle.rc_play_spec.specs.House.{points_at, points_in}
 use Rattle.rc_measure.specs.Leads.{leader, is_best_in}
 use Rattle.rc_measure.specs.Measures.{seat_points, strategy_points, strategy_best}
 use Rattle.rc_measure.proofs.Leading.{leader_leads}

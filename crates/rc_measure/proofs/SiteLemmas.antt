@@ -1,7 +1,7 @@
 -- The row of one site more.
 use Rattle.std.proofs.Common.{◌≡◌, ℕ, ◌+◌, Bool, true, false, if◌then◌else◌, List, [], ◌∷◌, ◌++◌, map, filter, ℤ, refl, sym, ap, ◌∙◌}
-use Rattle.rc_model.specs.Numbers.{below}
-use Rattle.rc_model.specs.Transcript.{Record}
+use Rattle.rc_base.specs.Numbers.{below}
+use Rattle.rc_base.specs.Transcript.{Record}
 use Rattle.rc_measure.specs.Tally.{Tally, at_site, tally_where}
 use Rattle.rc_measure.specs.Measures.{site_row, is_met}
 use Rattle.rc_measure.specs.Rows.{rows_of_site}

@@ -1,7 +1,7 @@
 -- Choices in groups, each of which has a number, and the tallies of all groups as they are counted.
 use Rattle.std.specs.Prelude.{ℕ, ◌+◌, ◌*◌, ◌≤◌, ◌==◌, if◌then◌else◌, List, [], ◌∷◌, slice_set, slice_index_or}
-use Rattle.rc_model.specs.Transcript.{Pick as PurePick}
-use Rattle.rc_play_model.specs.Plan.{Plan, strategy_held}
+use Rattle.rc_base.specs.Transcript.{Pick as PurePick}
+use Rattle.rc_play_spec.specs.Plan.{Plan, strategy_held}
 use Rattle.rc_rules.specs.declared.record.Pick.{Pick}
 use Rattle.rc_rules.specs.declared.record.MatchRecord.{MatchRecord}
 use Rattle.rc_rules.specs.Record.{pick_seen}

@@ -2,10 +2,10 @@
 use Rattle.std.specs.Prelude.{◌≡◌, ℕ, ◌<◌, ◌≤◌, ◌-◌, ◌/◌, List, length, sum_by, slice_index, IsTrue, IsPermutation}
 use Rattle.std.specs.List.{AllByRecursion}
 use Rattle.std.specs.List.Sorted.{IsNonDecreasing}
-use Rattle.rc_model.specs.Numbers.{below}
-use Rattle.rc_model.specs.Limits.{most_sites}
-use Rattle.rc_model.specs.Transcript.{Pick, Record}
-use Rattle.rc_play_model.specs.Plan.{Plan}
+use Rattle.rc_base.specs.Numbers.{below}
+use Rattle.rc_base.specs.Limits.{most_sites}
+use Rattle.rc_base.specs.Transcript.{Pick, Record}
+use Rattle.rc_play_spec.specs.Plan.{Plan}
 use Rattle.rc_measure.specs.Tally.{Test, every, at_site, by_seat, tally_where}
 use Rattle.rc_measure.specs.Turns.{ascending}
 use Rattle.rc_measure.specs.Leads.{leader, leads_in, is_best_in}

@@ -1,10 +1,10 @@
 -- Which strategy leads after so many matches, and how often that changes.
 use Rattle.std.specs.Prelude.{ℕ, ◌+◌, ◌-◌, ◌==◌, nat_le, Bool, not, List, length, take, count_by}
 use Rattle.std.specs.List.{list_all, position_or_len, range_with_len}
-use Rattle.rc_model.specs.Numbers.{below}
-use Rattle.rc_model.specs.Transcript.{Record}
-use Rattle.rc_play_model.specs.Plan.{Plan}
-use Rattle.rc_play_model.specs.House.{points_in, points_of, ahead}
+use Rattle.rc_base.specs.Numbers.{below}
+use Rattle.rc_base.specs.Transcript.{Record}
+use Rattle.rc_play_spec.specs.Plan.{Plan}
+use Rattle.rc_play_spec.specs.House.{points_in, points_of, ahead}
 
 -- the first strategy that none is ahead of
 abbrev pub leader : List ℕ → ℕ

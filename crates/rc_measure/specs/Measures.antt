@@ -1,11 +1,11 @@
 -- What is measured of the matches of a plan.
 use Rattle.std.specs.Prelude.{ℕ, ◌/◌, ◌-◌, nat_lt, Bool, true, false, ℤ, pos}
 use Rattle.std.specs.Prelude.{List, [], ◌∷◌, length, map, filter, count_by, sum_by, slice_index}
-use Rattle.rc_model.specs.Numbers.{below}
-use Rattle.rc_model.specs.Limits.{most_sites}
-use Rattle.rc_model.specs.Transcript.{Ending, done, limit, Record}
-use Rattle.rc_play_model.specs.Plan.{Plan}
-use Rattle.rc_play_model.specs.House.{points_at, points_in}
+use Rattle.rc_base.specs.Numbers.{below}
+use Rattle.rc_base.specs.Limits.{most_sites}
+use Rattle.rc_base.specs.Transcript.{Ending, done, limit, Record}
+use Rattle.rc_play_spec.specs.Plan.{Plan}
+use Rattle.rc_play_spec.specs.House.{points_at, points_in}
 use Rattle.rc_measure.specs.Tally.{Tally, every, at_site, by_seat, by_strategy, tally_where}
 use Rattle.rc_measure.specs.Turns.{ascending}
 use Rattle.rc_measure.specs.Scores.{spread_in}

@@ -1,7 +1,7 @@
 -- Choices, counted: how many there are, how many of them leave nothing to choose, and how large all their menus are.
 use Rattle.std.specs.Prelude.{ℕ, ◌==◌, Bool, true, List, length, filter, flat_map, count_by, sum_by}
-use Rattle.rc_model.specs.Transcript.{Pick, Record}
-use Rattle.rc_play_model.specs.Plan.{Plan, strategy_held}
+use Rattle.rc_base.specs.Transcript.{Pick, Record}
+use Rattle.rc_play_spec.specs.Plan.{Plan, strategy_held}
 
 pub record Tally : Type 0 where
   pub choices : ℕ

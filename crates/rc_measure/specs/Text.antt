@@ -2,7 +2,7 @@
 use Rattle.std.specs.Prelude.{◌≡◌, ℕ, List, ◌++◌, length, flat_map, slice_index_or, ℤ, pos, codes}
 use Rattle.std.specs.Fmt.{signed_decimal}
 use Rattle.std.specs.List.{AllByRecursion}
-use Rattle.rc_model.specs.Transcript.{line}
+use Rattle.rc_base.specs.Transcript.{line}
 use Rattle.rc_measure.specs.Measures.{Measures}
 
 abbrev pub number_at : List ℤ → ℕ → List ℕ

@@ -1,7 +1,7 @@
 //! Which strategy leads after so many matches, and how often that changes; and which are best in a match.
 ghost use Rattle.std.specs.Prelude.{◌≡◌, ◌≤◌, ◌<◌, ◌+◌, ℕ, length, map, count_by, sum_by, slice_index, All, IfOk};
-ghost use Rattle.rc_model.specs.Limits.{most_matches};
-ghost use Rattle.rc_play_model.specs.House as house;
+ghost use Rattle.rc_base.specs.Limits.{most_matches};
+ghost use Rattle.rc_play_spec.specs.House as house;
 ghost use Rattle.rc_rules.specs.Plan.{plan_seen};
 ghost use Rattle.rc_rules.specs.Record.{record_seen};
 ghost use Rattle.rc_measure.specs.Leads as leads;

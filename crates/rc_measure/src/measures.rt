@@ -1,9 +1,9 @@
 //! What is measured of the matches of a plan.
 ghost use Rattle.std.specs.Prelude.{◌≡◌, ◌≤◌, ◌<◌, ◌^◌, ◌*◌, length, map, count_by, All, IfOk, OnOk};
 ghost use Rattle.std.specs.Prelude.{[], ◌∷◌, ◌++◌, pos};
-ghost use Rattle.rc_model.specs.Numbers.{below};
-ghost use Rattle.rc_model.specs.Limits.{most_matches};
-ghost use Rattle.rc_model.specs.Clamp.{IsWithinClamp};
+ghost use Rattle.rc_base.specs.Numbers.{below};
+ghost use Rattle.rc_base.specs.Limits.{most_matches};
+ghost use Rattle.rc_base.specs.Clamp.{IsWithinClamp};
 ghost use Rattle.rc_rules.specs.Plan.{plan_seen};
 ghost use Rattle.rc_rules.specs.Record.{record_seen, ending_seen};
 ghost use Rattle.rc_measure.specs.Groups.{HasAtMost, most_choices, most_picks};
@@ -17,8 +17,8 @@ use crate::leads::{best_in, leads_in};
 use crate::scores::spread_in;
 use crate::tally::{GroupBy, Tally, tallies_by};
 use crate::turns::{ascending_turns, turns_in};
+use rc_base::limits::MOST_SITES;
 use rc_deck::Memory;
-use rc_names::limits::MOST_SITES;
 use rc_rules::{Ended, MatchRecord, Plan};
 use rc_text::{points_at, points_over};
 use std::alloc::Global;

@@ -1,7 +1,7 @@
 //! Choices, counted by their sites, their seats or the strategies that made them.
 ghost use Rattle.std.specs.Prelude.{◌≡◌, ◌≤◌, ◌<◌, ◌+◌, ◌-◌, ℕ, length, map, slice_index_or, All};
-ghost use Rattle.rc_model.specs.Limits.{most_matches};
-ghost use Rattle.rc_play_model.specs.Plan as plans;
+ghost use Rattle.rc_base.specs.Limits.{most_matches};
+ghost use Rattle.rc_play_spec.specs.Plan as plans;
 ghost use Rattle.rc_rules.specs.Plan.{plan_seen};
 ghost use Rattle.rc_rules.specs.Record.{pick_seen, record_seen};
 ghost use Rattle.rc_measure.specs.Tally.{tally_where};
@@ -9,7 +9,7 @@ ghost use Rattle.rc_measure.specs.Groups as groups;
 ghost use Rattle.rc_measure.specs.Groups.{HasAtMost, most_choices, most_picks};
 ghost use Rattle.rc_measure.specs.Seen.{tally_seen};
 
-use rc_names::limits::MOST_SITES;
+use rc_base::limits::MOST_SITES;
 use rc_rules::{MatchRecord, Pick, Plan};
 
 /// How many choices, how many of these with a menu of one item, and how many items in all menus.

@@ -1,9 +1,9 @@
 -- Groups that are the same for each member of a domain around them.
 use Rattle.std.proofs.Common.{◌≡◌, ℕ, ◌≤◌, List, length, sym, ap, ◌∙◌}
 use Rattle.std.specs.Prelude.{Some}
-use Rattle.rc_sheet_model.specs.Sheet.{CollExpr, Alt as PureAlt, any_alt, each_group}
-use Rattle.rc_play_model.specs.Scene.{CardValue}
-use Rattle.rc_play_model.specs.Value.{Scene as PureScene, Bind as PureBind, coll_value, groups_by}
+use Rattle.rc_sheet_spec.specs.Sheet.{CollExpr, Alt as PureAlt, any_alt, each_group}
+use Rattle.rc_play_spec.specs.Scene.{CardValue}
+use Rattle.rc_play_spec.specs.Value.{Scene as PureScene, Bind as PureBind, coll_value, groups_by}
 use Rattle.rc_menu.specs.Alike.{AreGroups}
 
 -- what the domain of an alternative groups, and by what

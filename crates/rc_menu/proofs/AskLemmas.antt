@@ -4,10 +4,10 @@ use mathlib.Core.Bool.{beq}
 use Rattle.std.proofs.lemmas.List.{drop_all, length-append, map-append}
 use Rattle.std.proofs.lemmas.List.Elements.{All-append, All-cons, All-nil}
 use Rattle.std.proofs.lemmas.Bool.{or_right, and_right}
-use Rattle.rc_sheet_model.specs.Sheet.{Test as PureTest}
-use Rattle.rc_play_model.specs.Scene.{CardValue, id_of}
-use Rattle.rc_play_model.specs.Value.{Scene as PureScene, Bind as PureBind, card_bound, player_bound, test_value, tests_value}
-use Rattle.rc_play_model.specs.Menu.{Item as PureItem}
+use Rattle.rc_sheet_spec.specs.Sheet.{Test as PureTest}
+use Rattle.rc_play_spec.specs.Scene.{CardValue, id_of}
+use Rattle.rc_play_spec.specs.Value.{Scene as PureScene, Bind as PureBind, card_bound, player_bound, test_value, tests_value}
+use Rattle.rc_play_spec.specs.Menu.{Item as PureItem}
 use Rattle.rc_flow.specs.Reads.{reads_test}
 use Rattle.rc_flow.proofs.Unread.{unread_test}
 use Rattle.rc_rules.proofs.Elements.{drop_here}

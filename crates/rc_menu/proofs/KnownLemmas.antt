@@ -2,11 +2,11 @@
 use Rattle.std.proofs.Common.{◌≡◌, ℕ, ℤ, pos, Bool, true, false, not, List, [], ◌∷◌, ◌++◌, length, map, Option, Some, None, refl, sym, ap, ap₂, ◌∙◌}
 use Rattle.std.specs.Prelude.{IfSome}
 use Rattle.std.specs.List.{list_any, list_all}
-use Rattle.rc_sheet_model.specs.Sheet.{Loc, Num, NumName, CollExpr, cards_in, IntExpr, literal, number, size_of, Test, Domain, each_card, all_of, any_of}
-use Rattle.rc_sheet_model.specs.Naming.{class_of}
-use Rattle.rc_play_model.specs.Owners.{place_among}
-use Rattle.rc_play_model.specs.Scene.{CardValue}
-use Rattle.rc_play_model.specs.Value.{Scene as PureScene, Bind as PureBind, attr_of, both, card_bound, nat_same, number_there, coll_value, int_value, test_value}
+use Rattle.rc_sheet_spec.specs.Sheet.{Loc, Num, NumName, CollExpr, cards_in, IntExpr, literal, number, size_of, Test, Domain, each_card, all_of, any_of}
+use Rattle.rc_sheet_spec.specs.Naming.{class_of}
+use Rattle.rc_play_spec.specs.Owners.{place_among}
+use Rattle.rc_play_spec.specs.Scene.{CardValue}
+use Rattle.rc_play_spec.specs.Value.{Scene as PureScene, Bind as PureBind, attr_of, both, card_bound, nat_same, number_there, coll_value, int_value, test_value}
 use Rattle.rc_menu.specs.declared.known.AtHand.{AtHand}
 use Rattle.rc_menu.specs.declared.known.AtHand.TheVariants.{OfCard, Holds, Unclear}
 use Rattle.rc_value.specs.declared.wanted.WantedValue.{WantedValue}

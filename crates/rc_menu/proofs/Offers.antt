@@ -1,14 +1,14 @@
 -- Menus that grow.
 use Rattle.std.proofs.Common.{◌≡◌, ℕ, ◌+◌, ◌<◌, ◌≤◌, Bool, true, false, cond, ◌==◌, List, [], ◌∷◌, ◌++◌, length, get_or, take, drop, map, arith, refl, sym, ap, ◌∙◌, append_assoc, append-nil}
 use Rattle.std.proofs.lemmas.List.{drop_all, take_all, map-append, length-map, length-take, length-append, take-append-le}
-use Rattle.rc_play_model.specs.Menu.{Item as PureItem, from_each, item_of, spots_of}
+use Rattle.rc_play_spec.specs.Menu.{Item as PureItem, from_each, item_of, spots_of}
 use Rattle.rc_menu.specs.Menu.{extended}
-use Rattle.rc_model.specs.Numbers.{below}
-use Rattle.rc_play_model.specs.Value.{Scene as PureScene, Bind as PureBind, player_bound, card_bound}
+use Rattle.rc_base.specs.Numbers.{below}
+use Rattle.rc_play_spec.specs.Value.{Scene as PureScene, Bind as PureBind, player_bound, card_bound}
 use mathlib.Core.Path.{fun_ext}
-use Rattle.rc_sheet_model.specs.Sheet.{Test as PureTest, Alt as PureAlt, Effects, do_alt, if_alt}
+use Rattle.rc_sheet_spec.specs.Sheet.{Test as PureTest, Alt as PureAlt, Effects, do_alt, if_alt}
 use Rattle.rc_menu.specs.Asks.{told_of}
-use Rattle.rc_play_model.specs.Scene.{CardValue}
+use Rattle.rc_play_spec.specs.Scene.{CardValue}
 use Rattle.std.proofs.lemmas.Bool.Decides.{nat_tests}
 use Rattle.rc_deck.proofs.RangeLemmas.{below_length}
 use Rattle.rc_rules.proofs.Elements.{drop_here}

@@ -2,22 +2,22 @@
 use Rattle.std.proofs.Common.{◌≡◌, ℕ, ◌+◌, ◌<◌, ◌≤◌, ◌&&◌, Bool, true, false, cond, List, [], ◌∷◌, ◌++◌, length, map, drop, get_or, pos, refl, sym, ap, ap₂, ◌∙◌, append-nil}
 use Rattle.std.specs.List.{list_any, list_all}
 use Rattle.std.proofs.lemmas.List.{drop_all}
-use Rattle.rc_sheet_model.specs.Sheet.{Who, game, current_player, current_team, team_of_current, team_of_var, who_var, Loc as PureLoc, cards_in, top_card, and_of, or_of}
-use Rattle.rc_sheet_model.specs.Lists.{tests_from}
-use Rattle.rc_play_model.specs.Scene.{CardValue}
-use Rattle.rc_play_model.specs.Value.{Scene as PureScene, Bind as PureBind, card_bound, nat_same, both, attr_of_any, worth_of_any, test_value, tests_value}
+use Rattle.rc_sheet_spec.specs.Sheet.{Who, game, current_player, current_team, team_of_current, team_of_var, who_var, Loc as PureLoc, cards_in, top_card, and_of, or_of}
+use Rattle.rc_sheet_spec.specs.Lists.{tests_from}
+use Rattle.rc_play_spec.specs.Scene.{CardValue}
+use Rattle.rc_play_spec.specs.Value.{Scene as PureScene, Bind as PureBind, card_bound, nat_same, both, attr_of_any, worth_of_any, test_value, tests_value}
 use Rattle.rc_ast.specs.Names.{loc_seen, num_seen}
-use Rattle.rc_asked.specs.declared.amounts.Amount.{Amount}
-use Rattle.rc_asked.specs.declared.amounts.Amount.TheVariants.{Literal, Number, Size, Worth}
-use Rattle.rc_asked.specs.declared.atoms.Comparison.{Comparison}
-use Rattle.rc_asked.specs.declared.atoms.Comparison.TheVariants.{Compare, Same}
-use Rattle.rc_asked.specs.declared.atoms.Comparator.TheVariants.{Equal}
-use Rattle.rc_asked.specs.declared.guards.Sense.TheVariants.{Plain}
-use Rattle.rc_asked.specs.declared.guards.Condition.TheVariants.{Known}
-use Rattle.rc_asked.specs.declared.guards.GuardPart.{GuardPart}
-use Rattle.rc_asked.specs.declared.guards.Guard.{Guard}
-use Rattle.rc_asked.specs.Meaning.{amount_meant, comparison_meant}
-use Rattle.rc_asked.specs.Guards.{guard_meant, part_meant, IsFixedAmount, IsFixedComparison, IsFixedLoc, IsFixedWho}
+use Rattle.rc_code.specs.declared.amounts.Amount.{Amount}
+use Rattle.rc_code.specs.declared.amounts.Amount.TheVariants.{Literal, Number, Size, Worth}
+use Rattle.rc_code.specs.declared.atoms.Comparison.{Comparison}
+use Rattle.rc_code.specs.declared.atoms.Comparison.TheVariants.{Compare, Same}
+use Rattle.rc_code.specs.declared.atoms.Comparator.TheVariants.{Equal}
+use Rattle.rc_code.specs.declared.guards.Sense.TheVariants.{Plain}
+use Rattle.rc_code.specs.declared.guards.Condition.TheVariants.{Known}
+use Rattle.rc_code.specs.declared.guards.GuardPart.{GuardPart}
+use Rattle.rc_code.specs.declared.guards.Guard.{Guard}
+use Rattle.rc_code.specs.FlatMeaning.{amount_meant, comparison_meant}
+use Rattle.rc_code.specs.Guards.{guard_meant, part_meant, IsFixedAmount, IsFixedComparison, IsFixedLoc, IsFixedWho}
 use Rattle.rc_rules.proofs.Elements.{drop_here}
 use Rattle.rc_value.specs.Comparing.{compare}
 use Rattle.rc_value.specs.Wanted.{IsFixed, IsFixedCollection, IsFixedOwner}

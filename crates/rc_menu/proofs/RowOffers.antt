@@ -2,13 +2,13 @@
 use Rattle.std.proofs.Common.{◌≡◌, ℕ, Bool, true, false, not, cond, List, [], ◌∷◌, map, refl, sym, ap, ◌∙◌}
 use mathlib.Core.Path.{fun_ext}
 use Rattle.std.specs.List.{list_all}
-use Rattle.rc_sheet_model.specs.Sheet.{Alt as PureAlt, Test as PureTest, cards_in, if_alt}
-use Rattle.rc_play_model.specs.Menu.{from_each, spots_of}
-use Rattle.rc_play_model.specs.Scene.{CardValue, id_of}
-use Rattle.rc_play_model.specs.Value.{Scene as PureScene, Bind as PureBind, coll_value}
+use Rattle.rc_sheet_spec.specs.Sheet.{Alt as PureAlt, Test as PureTest, cards_in, if_alt}
+use Rattle.rc_play_spec.specs.Menu.{from_each, spots_of}
+use Rattle.rc_play_spec.specs.Scene.{CardValue, id_of}
+use Rattle.rc_play_spec.specs.Value.{Scene as PureScene, Bind as PureBind, coll_value}
 use Rattle.rc_ast.specs.Names.{loc_seen}
-use Rattle.rc_asked.specs.declared.guards.Guard.{Guard}
-use Rattle.rc_asked.specs.Guards.{guard_meant, IsGuardOf}
+use Rattle.rc_code.specs.declared.guards.Guard.{Guard}
+use Rattle.rc_code.specs.Guards.{guard_meant, IsGuardOf}
 use Rattle.rc_menu.specs.declared.asks.CardAsk.{CardAsk}
 use Rattle.rc_menu.specs.declared.asks.CardAsk.TheVariants.{Value, CardTest, Whole}
 use Rattle.rc_menu.specs.declared.asks.Parts.{Parts}

@@ -1,9 +1,9 @@
 -- What is offered alike of all members of a domain.
 use Rattle.std.specs.Prelude.{◌≡◌, ℕ, ◌≤◌, Bool, true, false, List, length, Option, IfSome}
-use Rattle.rc_model.specs.Limits.{most_in_collection}
-use Rattle.rc_sheet_model.specs.Sheet.{CollExpr, Alt, do_alt, if_alt, any_alt, each_group}
-use Rattle.rc_play_model.specs.Value.{Scene as PureScene, Bind as PureBind, coll_value, groups_by}
-use Rattle.rc_play_model.specs.Scene.{CardValue}
+use Rattle.rc_base.specs.Limits.{most_in_collection}
+use Rattle.rc_sheet_spec.specs.Sheet.{CollExpr, Alt, do_alt, if_alt, any_alt, each_group}
+use Rattle.rc_play_spec.specs.Value.{Scene as PureScene, Bind as PureBind, coll_value, groups_by}
+use Rattle.rc_play_spec.specs.Scene.{CardValue}
 use Rattle.rc_flow.specs.Reads.{reads_test}
 
 -- whether a guard reads the variable at a place, as far as it is asked: one behind further variables may

@@ -1,13 +1,13 @@
 -- Menus at states that are alike.
 use Rattle.std.specs.Prelude.{◌≡◌, ℕ, List}
-use Rattle.rc_sheet_model.specs.Sight.{IsInSight}
-use Rattle.rc_play_model.specs.Control.{Control}
-use Rattle.rc_play_model.specs.Owners.{mover}
-use Rattle.rc_play_model.specs.Shape.{shape_of}
-use Rattle.rc_play_model.specs.Table.{Table}
-use Rattle.rc_play_model.specs.Scene.{scene_of}
-use Rattle.rc_play_model.specs.Menu.{Item, menu_of}
-use Rattle.rc_play_model.specs.Alike.{IsAlike}
+use Rattle.rc_sheet_spec.specs.Sight.{IsInSight}
+use Rattle.rc_play_spec.specs.Control.{Control}
+use Rattle.rc_play_spec.specs.Owners.{mover}
+use Rattle.rc_play_spec.specs.Shape.{shape_of}
+use Rattle.rc_play_spec.specs.Table.{Table}
+use Rattle.rc_play_spec.specs.Scene.{scene_of}
+use Rattle.rc_play_spec.specs.Menu.{Item, menu_of}
+use Rattle.rc_play_spec.specs.Alike.{IsAlike}
 use Rattle.rc_ast.specs.Sheet.{sheet_seen}
 use Rattle.rc_rules.specs.Control.{frames_seen}
 use Rattle.rc_value.specs.declared.scene.Scene.{Scene}

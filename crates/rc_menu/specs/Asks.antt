@@ -1,12 +1,12 @@
 -- Guards of one domain, in parts.
 use Rattle.std.specs.Prelude.{◌≡◌, ℕ, ◌+◌, ◌≤◌, ◌++◌, ◌∷◌, [], map, Bool, true, false, if◌then◌else◌, List, length, slice_index_or, Some, None, All}
 use Rattle.std.specs.List.{list_any, list_all}
-use Rattle.rc_sheet_model.specs.Sheet.{Test}
-use Rattle.rc_play_model.specs.Value.{Scene as PureScene, Bind as PureBind, card_bound, both, nat_same, test_value}
-use Rattle.rc_play_model.specs.Scene.{CardValue, id_of}
+use Rattle.rc_sheet_spec.specs.Sheet.{Test}
+use Rattle.rc_play_spec.specs.Value.{Scene as PureScene, Bind as PureBind, card_bound, both, nat_same, test_value}
+use Rattle.rc_play_spec.specs.Scene.{CardValue, id_of}
 use Rattle.rc_ast.specs.Expressions.{test_seen}
-use Rattle.rc_asked.specs.Guards.{part_meant}
-use Rattle.rc_asked.specs.declared.guards.GuardPart.{GuardPart}
+use Rattle.rc_code.specs.Guards.{part_meant}
+use Rattle.rc_code.specs.declared.guards.GuardPart.{GuardPart}
 use Rattle.rc_menu.specs.declared.asks.CardAsk.{CardAsk}
 use Rattle.rc_menu.specs.declared.asks.CardAsk.TheVariants.{Value, CardTest, Whole}
 use Rattle.rc_menu.specs.declared.asks.Parts.{Parts}

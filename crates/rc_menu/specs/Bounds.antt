@@ -1,7 +1,7 @@
 -- What the items of a menu bind.
 use Rattle.std.specs.Prelude.{◌≡◌}
-use Rattle.rc_sheet_model.specs.Sheet.{Alt, Sheet}
-use Rattle.rc_sheet_model.specs.WellFormed.{Around, IsAlt}
+use Rattle.rc_sheet_spec.specs.Sheet.{Alt, Sheet}
+use Rattle.rc_sheet_spec.specs.WellFormed.{Around, IsAlt}
 
 -- an alternative of a well formed sheet, outside all binders
 abbrev pub IsAltOutside : Sheet → Alt → Type 0

@@ -1,8 +1,8 @@
 -- What is the same whatever variables stand for, as far as it is known.
 use Rattle.std.specs.Prelude.{◌≡◌, ℕ, ◌+◌, ℤ, Bool, not, if◌then◌else◌, List, length}
-use Rattle.rc_sheet_model.specs.Sheet.{IntExpr, Test, Domain, all_of, any_of}
-use Rattle.rc_play_model.specs.Value.{Scene as PureScene, Bind as PureBind, int_value, test_value}
-use Rattle.rc_play_model.specs.Scene.{CardValue}
+use Rattle.rc_sheet_spec.specs.Sheet.{IntExpr, Test, Domain, all_of, any_of}
+use Rattle.rc_play_spec.specs.Value.{Scene as PureScene, Bind as PureBind, int_value, test_value}
+use Rattle.rc_play_spec.specs.Scene.{CardValue}
 use Rattle.rc_menu.specs.declared.known.AtHand.{AtHand}
 use Rattle.rc_menu.specs.declared.known.AtHand.TheVariants.{OfCard, Holds, Unclear}
 use Rattle.rc_value.specs.Wanted.{IsWanted}

@@ -1,10 +1,10 @@
 //! What is offered alike of all members of a domain: where a guard doesn't read which member it is asked of, it is
 //! asked once, and how many members there are is all that is wanted of them.
 ghost use Rattle.std.specs.Prelude.{◌≡◌, ◌+◌, ◌≤◌, ◌++◌, ◌∷◌, [], length, if◌then◌else◌, IfSome};
-ghost use Rattle.rc_model.specs.Limits.{most_in_collection};
-ghost use Rattle.rc_play_model.specs.Menu.{spots_of};
-ghost use Rattle.rc_play_model.specs.Scene.{CardValue};
-ghost use Rattle.rc_play_model.specs.Value.{Bind as PureBind, coll_value, groups_by};
+ghost use Rattle.rc_base.specs.Limits.{most_in_collection};
+ghost use Rattle.rc_play_spec.specs.Menu.{spots_of};
+ghost use Rattle.rc_play_spec.specs.Scene.{CardValue};
+ghost use Rattle.rc_play_spec.specs.Value.{Bind as PureBind, coll_value, groups_by};
 ghost use Rattle.rc_ast.specs.Expressions.{coll_seen};
 ghost use Rattle.rc_ast.specs.Items.{alt_seen};
 ghost use Rattle.rc_menu.specs.Alike.{may_read_in, AreGroups, AreGroupsOf};

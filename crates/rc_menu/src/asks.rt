@@ -1,8 +1,8 @@
 //! Guards of one domain, in parts: what doesn't read the variable that runs over it is asked once.
 ghost use Rattle.std.specs.Prelude.{◌≡◌, ◌+◌, ◌<◌, ◌≤◌, ◌++◌, ◌∷◌, [], length, map, slice_index_or, if◌then◌else◌, IfSome, Some, None, true, ℕ};
 ghost use Rattle.std.specs.List.{list_all};
-ghost use Rattle.rc_play_model.specs.Value.{card_bound, both, nat_same, tests_value};
-ghost use Rattle.rc_play_model.specs.Scene.{CardValue};
+ghost use Rattle.rc_play_spec.specs.Value.{card_bound, both, nat_same, tests_value};
+ghost use Rattle.rc_play_spec.specs.Scene.{CardValue};
 ghost use Rattle.rc_ast.specs.Expressions.{test_seen, tests_seen};
 ghost use Rattle.rc_menu.specs.Asks.{ask_value, asks_value, met_value, ask_depth, AllFit, joined, told_of, IsJoined, IsInParts};
 ghost use Rattle.rc_menu.specs.declared.asks.CardAsk.TheVariants.{Value, Whole};
@@ -70,7 +70,12 @@ pub(crate) fn ask_in<'t>(row: &'t [Option<u16>], wanted: WantedValue) -> CardAsk
 // A test of which it is known which value the cards are to have. It is asked by the row of their values, and as a test
 // if there is none.
 #[inline(always)]
-fn ask_by<'t>(scene: &'t Scene, scope: &Bindings, wanted: WantedValue, test: &'t Test) -> CardAsk<'t>
+fn ask_by<'t>(
+    scene: &'t Scene,
+    scope: &Bindings,
+    wanted: WantedValue,
+    test: &'t Test,
+) -> CardAsk<'t>
     requires wanted { IsWanted (scene_seen scene.now) scope.now (test_seen test.now) wanted }
     requires deep { length scope.now + (1 + test_depth (test_seen test.now)) ≤ 5 }
     ensures value { (c : CardValue) → told_of (scene_seen scene.now) scope.now (test_seen test.now) c

@@ -1,13 +1,13 @@
 //! What items bind, as people are told it.
 ghost use Rattle.std.specs.Prelude.{◌≡◌, ◌+◌, ◌<◌, ◌≤◌, [], ◌∷◌, ◌++◌, length, map};
-ghost use Rattle.rc_sheet_model.specs.Sheet.{any_alt};
-ghost use Rattle.rc_play_model.specs.Value.{Bind as PureBind};
-ghost use Rattle.rc_play_model.specs.Scene.{CardValue, id_of};
-ghost use Rattle.rc_play_model.specs.About.{scene_at};
-ghost use Rattle.rc_play_model.specs.Bound.{IsBindOf};
-ghost use Rattle.rc_play_model.specs.ItemBounds.{bound_of};
-ghost use Rattle.rc_play_model.specs.Menu.{bindings_of};
-ghost use Rattle.rc_play_model.specs.Shape.{face_number as face_number_of};
+ghost use Rattle.rc_sheet_spec.specs.Sheet.{any_alt};
+ghost use Rattle.rc_play_spec.specs.Value.{Bind as PureBind};
+ghost use Rattle.rc_play_spec.specs.Scene.{CardValue, id_of};
+ghost use Rattle.rc_play_spec.specs.About.{scene_at};
+ghost use Rattle.rc_play_spec.specs.Bound.{IsBindOf};
+ghost use Rattle.rc_play_spec.specs.ItemBounds.{bound_of};
+ghost use Rattle.rc_play_spec.specs.Menu.{bindings_of};
+ghost use Rattle.rc_play_spec.specs.Shape.{face_number as face_number_of};
 ghost use Rattle.rc_ast.specs.Expressions.{domain_seen};
 ghost use Rattle.rc_ast.specs.Items.{alt_seen};
 ghost use Rattle.rc_rules.specs.Bounds.{bound_seen, bounds_seen};
@@ -17,14 +17,16 @@ ghost use Rattle.rc_value.specs.Cards.{value_seen};
 ghost use Rattle.rc_value.specs.Current.{IsCurrent};
 ghost use Rattle.rc_value.specs.Seen.{bind_seen};
 ghost use Rattle.rc_menu.specs.Bounds.{IsAltOutside};
-ghost use Rattle.rc_state.specs.Context.{scene_in, IsContextOf};
-ghost use Rattle.rc_state.specs.Under.{IsAltUnder, IsDomainUnder};
+ghost use Rattle.rc_value.specs.Context.{scene_in, IsContextOf};
+ghost use Rattle.rc_value.specs.Under.{IsAltUnder, IsDomainUnder};
 
 use rc_ast::{Alt, Domain};
 use rc_rules::{About, Bound, Bounds, Frames};
-use rc_state::{Context, bare_bind_at, bind_of, member_at};
 use rc_table::{Shape, Table, face_number};
-use rc_value::{Bind, Bindings, Card, Cards, Current, expressions_bind_few};
+use rc_value::{
+    Bind, Bindings, Card, Cards, Context, Current, bare_bind_at, bind_of, expressions_bind_few,
+    member_at,
+};
 
 /// What these positions bind in an alternative, where it is known who is current. It costs little where no variable is
 /// bound, or only players and cards that stand somewhere as they are.

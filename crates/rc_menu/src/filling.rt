@@ -1,15 +1,15 @@
 //! Menus of decisions.
 ghost use Rattle.std.specs.Prelude.{◌≡◌};
-ghost use Rattle.rc_play_model.specs.Menu.{alts_at};
-ghost use Rattle.rc_play_model.specs.About.{menu_at};
+ghost use Rattle.rc_play_spec.specs.Menu.{alts_at};
+ghost use Rattle.rc_play_spec.specs.About.{menu_at};
 ghost use Rattle.rc_ast.specs.Items.{alts_seen};
 ghost use Rattle.rc_rules.specs.Control.{control_seen, frames_seen};
 ghost use Rattle.rc_rules.specs.Menu.{menu_seen};
 ghost use Rattle.rc_value.specs.Current.{IsCurrent};
 
 use crate::menu::{fill_menu, fill_offers};
-use rc_asked::Offer;
 use rc_ast::Alt;
+use rc_code::Offer;
 use rc_rules::{About, Control, Items, Menu};
 use rc_table::Table;
 use rc_value::{Current, Scene, current_of};

@@ -3,8 +3,8 @@
 ghost use Rattle.std.specs.Prelude.{◌≡◌, ◌<◌, true, IfSome, int_lt, int_le, length};
 ghost use Rattle.std.specs.Ordering.{int_eq};
 ghost use Rattle.std.specs.List.{list_any, list_all};
-ghost use Rattle.rc_sheet_model.specs.Sheet.{cards_in, each_card};
-ghost use Rattle.rc_play_model.specs.Value.{coll_value};
+ghost use Rattle.rc_sheet_spec.specs.Sheet.{cards_in, each_card};
+ghost use Rattle.rc_play_spec.specs.Value.{coll_value};
 ghost use Rattle.rc_ast.specs.Names.{loc_seen};
 ghost use Rattle.rc_ast.specs.Expressions.{coll_seen, int_seen, test_seen, domain_seen};
 ghost use Rattle.rc_menu.specs.Known.{hand_turned, IsAtHand, IsAllKnownAt, IsAnyKnownAt, IsKnownAt, IsFixedNumber, IsKnownNumber, IsKnownPair, IsTurned};

@@ -1,9 +1,9 @@
 //! What a choice offers.
 ghost use Rattle.std.specs.Prelude.{◌≡◌, ◌+◌, ◌<◌, ◌≤◌, ◌++◌, ◌∷◌, [], length, map, take, if◌then◌else◌, All, IfOk};
-ghost use Rattle.rc_model.specs.Numbers.{below};
-ghost use Rattle.rc_model.specs.Limits.{most_items};
-ghost use Rattle.rc_play_model.specs.Value.{card_bound, player_bound, group_bound, coll_value, groups_by};
-ghost use Rattle.rc_play_model.specs.Menu.{spots_of, from_each, alts_at, menu_of as pure_menu_of, menu_from as pure_menu_from};
+ghost use Rattle.rc_base.specs.Numbers.{below};
+ghost use Rattle.rc_base.specs.Limits.{most_items};
+ghost use Rattle.rc_play_spec.specs.Value.{card_bound, player_bound, group_bound, coll_value, groups_by};
+ghost use Rattle.rc_play_spec.specs.Menu.{spots_of, from_each, alts_at, menu_of as pure_menu_of, menu_from as pure_menu_from};
 ghost use Rattle.rc_ast.specs.Expressions.{coll_seen};
 ghost use Rattle.rc_ast.specs.Items.{alt_seen, alts_seen};
 ghost use Rattle.rc_rules.specs.Menu.{item_seen, menu_seen};
@@ -17,10 +17,10 @@ ghost use Rattle.rc_menu.specs.Menu.{extended};
 
 use crate::alike::{groups_inside, groups_of, offered_alike};
 use crate::offering::{is_filled, offer_count, offer_guarded, offer_in_parts, with_spot};
-use rc_asked::Offer;
 use rc_ast::{Alt, CollExpr, Domain};
+use rc_code::Offer;
 use rc_deck::Memory;
-use rc_play_model::alike_states_have_equal_menus;
+use rc_play_spec::alike_states_have_equal_menus;
 use rc_rules::{Item, Items, Spots};
 use rc_value::{
     Bind, Bindings, Cards, Collection, Scene, Values, cards_of, coll_of, note_values, regroup,

@@ -1,13 +1,13 @@
 //! Menus that grow by the cards of an innermost domain.
 ghost use Rattle.std.specs.Prelude.{◌≡◌, ◌<◌, ◌+◌, ◌≤◌, ◌++◌, ◌∷◌, [], true, false, length, map, take, slice_index_or, Some, None, IfSome, if◌then◌else◌};
-ghost use Rattle.rc_model.specs.Numbers.{below};
-ghost use Rattle.rc_model.specs.Limits.{most_items, most_in_list};
-ghost use Rattle.rc_sheet_model.specs.Sheet.{cards_in};
-ghost use Rattle.rc_play_model.specs.Menu.{from_each};
-ghost use Rattle.rc_play_model.specs.Value.{both, nat_same, coll_value};
+ghost use Rattle.rc_base.specs.Numbers.{below};
+ghost use Rattle.rc_base.specs.Limits.{most_items, most_in_list};
+ghost use Rattle.rc_sheet_spec.specs.Sheet.{cards_in};
+ghost use Rattle.rc_play_spec.specs.Menu.{from_each};
+ghost use Rattle.rc_play_spec.specs.Value.{both, nat_same, coll_value};
 ghost use Rattle.rc_ast.specs.Names.{loc_seen};
 ghost use Rattle.rc_ast.specs.Expressions.{test_seen};
-ghost use Rattle.rc_asked.specs.Guards.{guard_meant, IsFixedGuard};
+ghost use Rattle.rc_code.specs.Guards.{guard_meant, IsFixedGuard};
 ghost use Rattle.rc_rules.specs.Menu.{item_seen, menu_seen};
 ghost use Rattle.rc_menu.specs.Asks.{ask_value, met_value, AllFit, joined, told_of};
 ghost use Rattle.rc_value.specs.Depth.{test_depth};
@@ -18,8 +18,8 @@ use crate::asks::{
     Asks, CardAsk, Parts, are_sought, has_value, joined_answer, joined_met, parts_of, sole_value,
 };
 use crate::parts::known_parts;
-use rc_asked::Guard;
 use rc_ast::Test;
+use rc_code::Guard;
 use rc_rules::{Item, Items, Spots};
 use rc_value::{Bindings, Collection, Scene, ids_of};
 

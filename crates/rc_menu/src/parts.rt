@@ -2,9 +2,9 @@
 //! card itself, so each part is asked once, with no walk over a tree, outside all binders.
 ghost use Rattle.std.specs.Prelude.{◌≡◌, ℕ, ◌+◌, ◌<◌, ◌≤◌, [], true, length, map, All, IfSome, if◌then◌else◌};
 ghost use Rattle.std.specs.List.{list_all};
-ghost use Rattle.rc_sheet_model.specs.Sheet.{Test as PureTest};
-ghost use Rattle.rc_play_model.specs.Scene.{CardValue};
-ghost use Rattle.rc_asked.specs.Guards.{in_sense, guard_meant, part_meant, condition_meant, card_test_meant, IsFixedGuard, IsFixedPart, IsFixedCondition, IsFixedCardTest};
+ghost use Rattle.rc_sheet_spec.specs.Sheet.{Test as PureTest};
+ghost use Rattle.rc_play_spec.specs.Scene.{CardValue};
+ghost use Rattle.rc_code.specs.Guards.{in_sense, guard_meant, part_meant, condition_meant, card_test_meant, IsFixedGuard, IsFixedPart, IsFixedCondition, IsFixedCardTest};
 ghost use Rattle.rc_menu.specs.Asks.{ask_value, asks_value, joined, parts_told, IsInParts, IsJoined};
 ghost use Rattle.rc_menu.specs.Known.{IsAtHand, IsTurned};
 ghost use Rattle.rc_value.specs.Scene.{scene_seen};
@@ -12,8 +12,8 @@ ghost use Rattle.rc_value.specs.Wanted.{IsWantedAt};
 
 use crate::asks::{Asks, Parts, ask_in};
 use crate::known::{AtHand, some_there, turned_if};
-use rc_asked::{Guard, GuardPart, Condition, Sense, CardTest};
-use rc_value::{Bindings, Scene, WantedValue, comparison_holds, attr_of_id, top_id};
+use rc_code::{CardTest, Condition, Guard, GuardPart, Sense};
+use rc_value::{Bindings, Scene, WantedValue, attr_of_id, comparison_holds, top_id};
 
 // The value that a card is to have.
 #[inline(always)]

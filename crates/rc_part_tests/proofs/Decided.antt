@@ -1,13 +1,13 @@
 -- A match that first stops at a decision can be made anew there.
 use Rattle.std.proofs.Common.{◌≡◌, ℕ, [], Some, refl, sym, ap, subst, ◌∙◌}
-use Rattle.rc_sheet_model.specs.WellFormed.{IsWellFormed}
-use Rattle.rc_play_model.specs.Shape.{shape_of}
-use Rattle.rc_play_model.specs.About.{About}
-use Rattle.rc_play_model.specs.Effects.{Dealing}
-use Rattle.rc_play_model.specs.Step.{Config, Stop, decide, start}
-use Rattle.rc_play_model.specs.Stop.{stop_of}
-use Rattle.rc_play_model.specs.Play.{from_stop, follow}
-use Rattle.rc_play_model.specs.ControlLaws.{ControlsFit}
+use Rattle.rc_sheet_spec.specs.WellFormed.{IsWellFormed}
+use Rattle.rc_play_spec.specs.Shape.{shape_of}
+use Rattle.rc_play_spec.specs.About.{About}
+use Rattle.rc_play_spec.specs.Effects.{Dealing}
+use Rattle.rc_play_spec.specs.Step.{Config, Stop, decide, start}
+use Rattle.rc_play_spec.specs.Stop.{stop_of}
+use Rattle.rc_play_spec.specs.Play.{from_stop, follow}
+use Rattle.rc_play_spec.specs.ControlLaws.{ControlsFit}
 use Rattle.rc_rules.specs.Machine.{Decides, IsWhereItStops, CanDecide}
 
 pub first_decides : (about about' : About) (dealing : Dealing ℕ) (k k' seat site : ℕ) (stop : Stop) (before c : Config) →

@@ -1,9 +1,9 @@
 -- The orders of the dealer of tests: each permutes, and lists of other lengths stay.
 use Rattle.std.proofs.Common.{◌≡◌, ℕ, zero, suc, ◌==◌, Bool, true, false, if◌then◌else◌, List, [], ◌∷◌, length, refl, sym, ap, subst, ◌∙◌, arith, IsPermutation, eqb-true}
 use Rattle.std.proofs.lemmas.List.Sorted.{IsPermutation-refl}
-use Rattle.rc_model.specs.Numbers.{below}
-use Rattle.rc_play_model.specs.Table.{taken}
-use Rattle.rc_play_model.proofs.SoundLemmas.{by_places}
+use Rattle.rc_base.specs.Numbers.{below}
+use Rattle.rc_play_spec.specs.Table.{taken}
+use Rattle.rc_play_spec.proofs.SoundLemmas.{by_places}
 use Rattle.rc_part_tests.specs.Stated.{order_of_four, stated}
 
 pub stays : (list order : List ℕ) → (length list == 4) ≡ false → list ≡ taken (if length list == 4 then order else below (length list)) list

@@ -1,7 +1,7 @@
 -- The orders of the dealer of tests.
 use Rattle.std.specs.Prelude.{ℕ, zero, suc, Bool, ◌==◌, if◌then◌else◌, List, [], ◌∷◌}
-use Rattle.rc_model.specs.Numbers.{below}
-use Rattle.rc_play_model.specs.Effects.{Dealing}
+use Rattle.rc_base.specs.Numbers.{below}
+use Rattle.rc_play_spec.specs.Effects.{Dealing}
 
 -- of four items the first list goes by one order, and each later one by another
 abbrev pub order_of_four : ℕ → List ℕ

@@ -6,13 +6,13 @@ ghost use Rattle.rc_code.specs.Stands.{StandsFor};
 
 use crate::expect::expect_same;
 use crate::moves::MOVES;
+use rc_base::Steps;
 use rc_games::{
     DRAWS, Game, MAGPIE, OPEN_CARD, Observed, Playouts, Returns, STAIRCASE, game_in, replay,
 };
-use rc_records::record_of;
 use rc_rollout::Blank as Forgetful;
 use rc_rules::{Ended, MatchRecord, Plan, Strategy};
-use rc_steps::Steps;
+use rc_series::record_of;
 use rc_trick::trick_text;
 use std::alloc::Global;
 use std::marker::Brand;

@@ -5,11 +5,11 @@ ghost use Rattle.rc_code.specs.Stands.{StandsFor};
 
 use crate::expect::expect_same;
 use crate::twice::{about_in, plan_in};
+use rc_base::Steps;
 use rc_games::{Fickle, Game};
-use rc_records::record_of;
 use rc_rollout::{Choices, shared_code};
 use rc_rules::MatchRecord;
-use rc_steps::Steps;
+use rc_series::record_of;
 use std::alloc::{AllocError, Global};
 use std::marker::Brand;
 use std::process::Abort;

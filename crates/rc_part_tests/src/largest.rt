@@ -1,8 +1,8 @@
 //! Machines that are made anew at a decision: of a small game, and of the largest sheet, with 512 cards, 256 locations
 //! and 256 numbers, and in a match as many references as there may be.
 ghost use Rattle.std.specs.Prelude.{◌≡◌, false, IfOk};
-ghost use Rattle.rc_play_model.specs.Shape.{shape_of as shape_for};
-ghost use Rattle.rc_play_model.specs.Step.{start};
+ghost use Rattle.rc_play_spec.specs.Shape.{shape_of as shape_for};
+ghost use Rattle.rc_play_spec.specs.Step.{start};
 ghost use Rattle.rc_rules.specs.Machine.{CanDecide, StopsAtDecision};
 ghost use Rattle.rc_plain.specs.Plain.{config_of};
 ghost use Rattle.rc_code.specs.Seen.{code_seen};
@@ -14,7 +14,7 @@ use rc_code::{Code, compile};
 use rc_flat::FlatMachine;
 use rc_games::{Basis, GAME, are_same_controls, are_same_tables, basis_in, largest};
 use rc_plain::PlainMachine;
-use rc_play_model::controls_fit_their_sites;
+use rc_play_spec::controls_fit_their_sites;
 use rc_rules::{About, Machine, MatchDealer, Stop};
 use rc_table::Table;
 use std::alloc::Global;

@@ -1,11 +1,11 @@
 //! What each seat is told of a match by its log, and how logs are read.
 ghost use Rattle.std.specs.Prelude.{◌<◌, ◌≤◌, length};
-ghost use Rattle.rc_model.specs.Limits.{longest_text};
+ghost use Rattle.rc_base.specs.Limits.{longest_text};
 
 use crate::expect::expect_same;
+use rc_base::limits::LONGEST_TEXT;
 use rc_form::read_forms;
 use rc_games::{GAME, basis_in, checked_of_form};
-use rc_names::limits::LONGEST_TEXT;
 use rc_plan::{PlanFail, plan_of};
 use rc_seatlog::{LogFail, LogText, read_log};
 use rc_watch::watched_log;

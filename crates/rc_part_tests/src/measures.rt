@@ -1,6 +1,6 @@
 //! The text of the measures of matches.
 ghost use Rattle.std.specs.Prelude.{◌≡◌, ◌≤◌, ◌<◌, length, All, IfOk};
-ghost use Rattle.rc_model.specs.Clamp.{IsWithinClamp};
+ghost use Rattle.rc_base.specs.Clamp.{IsWithinClamp};
 
 use crate::expect::expect_same;
 use rc_deck::Memory;

@@ -1,6 +1,6 @@
 //! A dealer whose orders are stated, and what a machine makes of them.
 ghost use Rattle.std.specs.Prelude.{◌≡◌, length};
-ghost use Rattle.rc_play_model.specs.Table.{taken};
+ghost use Rattle.rc_play_spec.specs.Table.{taken};
 ghost use Rattle.rc_part_tests.specs.Stated.{stated, after_first};
 
 use crate::expect::expect_same;

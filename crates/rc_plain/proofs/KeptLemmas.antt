@@ -2,9 +2,9 @@
 use Rattle.std.proofs.Common.{◌≡◌, ℕ, ◌<◌, Bool, true, false, List, [], length, Option, Some, sym, ap, ◌∙◌, subst, true≢false}
 use Rattle.std.specs.Prelude.{unwrap_or, slice_index_or}
 use Rattle.std.proofs.lemmas.List.{length-map, get_or-map}
-use Rattle.rc_sheet_model.specs.Sheet.{Alt, SheetItem, choice}
-use Rattle.rc_play_model.specs.About.{About, scene_at, menu_at}
-use Rattle.rc_play_model.specs.Menu.{menu_from}
+use Rattle.rc_sheet_spec.specs.Sheet.{Alt, SheetItem, choice}
+use Rattle.rc_play_spec.specs.About.{About, scene_at, menu_at}
+use Rattle.rc_play_spec.specs.Menu.{menu_from}
 use Rattle.rc_rules.specs.Control.{control_seen, frames_seen}
 use Rattle.rc_rules.specs.declared.menu.Item.{Item}
 use Rattle.rc_rules.specs.Machine.{StopsAtDecision, menu_here}

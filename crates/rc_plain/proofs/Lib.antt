@@ -1,3 +1,5 @@
+pub mod EffectSteps
+mod EveryoneLemmas
 pub mod StageLemmas
 pub mod PathLemmas
 pub mod StepCases

@@ -3,22 +3,22 @@ use Rattle.std.proofs.Common.{◌≡◌, ℕ, ◌≤◌, ◌<◌, Bool, true, fa
 use Rattle.std.specs.List.{AllZip}
 use Rattle.std.proofs.lemmas.List.Elements.{All-from_recursion}
 use Rattle.rc_deck.proofs.EachLemmas.{past_end}
-use Rattle.rc_sheet_model.specs.Sheet.{Alt, SheetItem, choice}
-use Rattle.rc_sheet_model.specs.Lists.{item_list}
-use Rattle.rc_play_model.specs.Control.{Control}
-use Rattle.rc_play_model.specs.Table.{Table, opening}
-use Rattle.rc_play_model.specs.About.{About, scene_at}
-use Rattle.rc_play_model.specs.Menu.{alts_at, menu_from}
-use Rattle.rc_sheet_model.specs.WellFormed.{IsWellFormed}
-use Rattle.rc_play_model.specs.Step.{Part, todo, round, turn, todos, Stop, decide, is_done, is_limit, start}
-use Rattle.rc_play_model.specs.Path.{Path}
-use Rattle.rc_play_model.specs.Decision.{left_at}
-use Rattle.rc_play_model.specs.Fits.{around, HasFrames, IsFrameOf, FitsSite, IsDecision, IsAtStop}
+use Rattle.rc_sheet_spec.specs.Sheet.{Alt, SheetItem, choice}
+use Rattle.rc_sheet_spec.specs.Lists.{item_list}
+use Rattle.rc_play_spec.specs.Control.{Control}
+use Rattle.rc_play_spec.specs.Table.{Table, opening}
+use Rattle.rc_play_spec.specs.About.{About, scene_at}
+use Rattle.rc_play_spec.specs.Menu.{alts_at, menu_from}
+use Rattle.rc_sheet_spec.specs.WellFormed.{IsWellFormed}
+use Rattle.rc_play_spec.specs.Step.{Part, todo, round, turn, todos, Stop, decide, is_done, is_limit, start}
+use Rattle.rc_play_spec.specs.Path.{Path}
+use Rattle.rc_play_spec.specs.Decision.{left_at}
+use Rattle.rc_play_spec.specs.Fits.{around, HasFrames, IsFrameOf, FitsSite, IsDecision, IsAtStop}
 use Rattle.rc_rules.specs.Machine.{IsWhereItStops}
-use Rattle.rc_play_model.proofs.PathLemmas.{left-item, left-round, turn_left, end_left}
-use Rattle.rc_play_model.proofs.FrameLemmas.{start_frames, numbers_same}
-use Rattle.rc_play_model.proofs.SiteLemmas.{alts_at_found}
-use Rattle.rc_play_model.proofs.ControlLemmas.{zeros}
+use Rattle.rc_play_spec.proofs.PathLemmas.{left-item, left-round, turn_left, end_left}
+use Rattle.rc_play_spec.proofs.FrameLemmas.{start_frames, numbers_same}
+use Rattle.rc_play_spec.proofs.SiteLemmas.{alts_at_found}
+use Rattle.rc_play_spec.proofs.ControlLemmas.{zeros}
 use Rattle.rc_plain.specs.Paths.{ArePlaces, IsPath, item_at}
 use Rattle.rc_plain.specs.Plain.{Plain, config_of, IsInPlay}
 use Rattle.rc_plain.proofs.PathLemmas.{all_but_last}

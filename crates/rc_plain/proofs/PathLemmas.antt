@@ -1,16 +1,16 @@
 -- Paths of machines: places one more and one less, how many stages are open, and that the item at a path of a well formed
 -- sheet is well formed.
 use Rattle.std.proofs.Common.{◌≡◌, ℕ, zero, suc, ◌+◌, Bool, true, false, List, [], ◌∷◌, ◌++◌, length, drop, slice_get, Option, Some, None, refl, sym, ap, ◌∙◌, subst, length-append, arith}
-use Rattle.rc_sheet_model.specs.Sheet.{Class, game_class, player_class, team_class, Test, SheetItem, do_item, stage, choice, SheetItems, no_item, item, Sheet}
-use Rattle.rc_sheet_model.specs.Lists.{item_list}
-use Rattle.rc_sheet_model.specs.WellFormed.{Around, in_stage, IsTest, IsItem, AreItems}
-use Rattle.rc_play_model.specs.Step.{Stage, Part, round, turn, todos}
-use Rattle.rc_play_model.specs.Path.{Path, stage_at, stage_in, body_of, marks_of, within, left_here, left_of, body_at}
-use Rattle.rc_play_model.specs.Fits.{around}
-use Rattle.rc_play_model.proofs.PathLemmas.{body-more}
-use Rattle.rc_play_model.proofs.DepthLemmas.{none_within}
-use Rattle.rc_play_model.proofs.FrameLemmas.{around-todos}
-use Rattle.rc_play_model.proofs.SiteLemmas.{none_not-some}
+use Rattle.rc_sheet_spec.specs.Sheet.{Class, game_class, player_class, team_class, Test, SheetItem, do_item, stage, choice, SheetItems, no_item, item, Sheet}
+use Rattle.rc_sheet_spec.specs.Lists.{item_list}
+use Rattle.rc_sheet_spec.specs.WellFormed.{Around, in_stage, IsTest, IsItem, AreItems}
+use Rattle.rc_play_spec.specs.Step.{Stage, Part, round, turn, todos}
+use Rattle.rc_play_spec.specs.Path.{Path, stage_at, stage_in, body_of, marks_of, within, left_here, left_of, body_at}
+use Rattle.rc_play_spec.specs.Fits.{around}
+use Rattle.rc_play_spec.proofs.PathLemmas.{body-more}
+use Rattle.rc_play_spec.proofs.DepthLemmas.{none_within}
+use Rattle.rc_play_spec.proofs.FrameLemmas.{around-todos}
+use Rattle.rc_play_spec.proofs.SiteLemmas.{none_not-some}
 use Rattle.rc_plain.specs.Paths.{ArePlaces, IsPath, item_at}
 
 -- PLACES

@@ -1,18 +1,18 @@
 -- Machines stay in play.
 use Rattle.std.proofs.Common.{◌≡◌, ℕ, ◌+◌, ◌≤◌, ◌<◌, true, false, [], length, All, Some, sym, ap, subst, true≢false, arith}
 use Rattle.std.proofs.lemmas.List.{length-map}
-use Rattle.rc_sheet_model.specs.Sheet.{SheetItem}
-use Rattle.rc_sheet_model.specs.Lists.{item_list}
-use Rattle.rc_sheet_model.specs.WellFormed.{IsWellFormed}
-use Rattle.rc_play_model.specs.Control.{Control}
-use Rattle.rc_play_model.specs.Table.{Table}
-use Rattle.rc_play_model.specs.Effects.{Dealing}
-use Rattle.rc_play_model.specs.Step.{Stage, goes, step}
-use Rattle.rc_play_model.specs.Decision.{choose}
-use Rattle.rc_play_model.specs.Path.{Path, stage_in, past, at_mark, into, item_depth}
-use Rattle.rc_play_model.specs.Fits.{around}
-use Rattle.rc_play_model.proofs.FrameLemmas.{step_frames, choice_frames}
-use Rattle.rc_play_model.proofs.DepthLemmas.{shallow_path}
+use Rattle.rc_sheet_spec.specs.Sheet.{SheetItem}
+use Rattle.rc_sheet_spec.specs.Lists.{item_list}
+use Rattle.rc_sheet_spec.specs.WellFormed.{IsWellFormed}
+use Rattle.rc_play_spec.specs.Control.{Control}
+use Rattle.rc_play_spec.specs.Table.{Table}
+use Rattle.rc_play_spec.specs.Effects.{Dealing}
+use Rattle.rc_play_spec.specs.Step.{Stage, goes, step}
+use Rattle.rc_play_spec.specs.Decision.{choose}
+use Rattle.rc_play_spec.specs.Path.{Path, stage_in, past, at_mark, into, item_depth}
+use Rattle.rc_play_spec.specs.Fits.{around}
+use Rattle.rc_play_spec.proofs.FrameLemmas.{step_frames, choice_frames}
+use Rattle.rc_play_spec.proofs.DepthLemmas.{shallow_path}
 use Rattle.rc_plain.specs.Paths.{ArePlaces, item_at, IsPath, Leaves}
 use Rattle.rc_plain.specs.Plain.{Plain, config_of, IsInPlay}
 use Rattle.rc_plain.proofs.PathLemmas.{one_more, all_but_last, open_stages}

@@ -10,12 +10,12 @@ use Rattle.rc_ast.specs.declared.expressions.Test.{Test}
 use Rattle.rc_ast.specs.Expressions.{test_seen}
 use Rattle.rc_ast.specs.Items.{item_seen, items_seen, alts_seen}
 use Rattle.rc_ast.proofs.ViewLemmas.{stage_seen}
-use Rattle.rc_sheet_model.specs.Sheet.{Class, SheetItems, choice}
-use Rattle.rc_sheet_model.specs.Lists.{item_list}
-use Rattle.rc_play_model.specs.Menu.{alts_in, alts_in_item}
-use Rattle.rc_play_model.specs.Step.{Stage as PureStage}
-use Rattle.rc_play_model.specs.Path.{stage_at, stage_in, body_at, item_depth, items_depth}
-use Rattle.rc_play_model.proofs.DepthLemmas.{nth_depth}
+use Rattle.rc_sheet_spec.specs.Sheet.{Class, SheetItems, choice}
+use Rattle.rc_sheet_spec.specs.Lists.{item_list}
+use Rattle.rc_play_spec.specs.Menu.{alts_in, alts_in_item}
+use Rattle.rc_play_spec.specs.Step.{Stage as PureStage}
+use Rattle.rc_play_spec.specs.Path.{stage_at, stage_in, body_at, item_depth, items_depth}
+use Rattle.rc_play_spec.proofs.DepthLemmas.{nth_depth}
 use Rattle.rc_plain.specs.Paths.{ArePlaces, Finds}
 use Rattle.rc_plain.proofs.StageLemmas.{item_list-from, stage_is}
 use Rattle.rc_plain.proofs.PathLemmas.{within_first}

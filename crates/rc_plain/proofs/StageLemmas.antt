@@ -7,9 +7,9 @@ use Rattle.rc_ast.specs.Items.{item_seen, items_seen}
 use Rattle.rc_ast.proofs.ViewLemmas.{stage_seen}
 use Rattle.rc_ast.specs.declared.sheet.Sheet.{Sheet}
 use Rattle.rc_ast.specs.Sheet.{sheet_seen}
-use Rattle.rc_sheet_model.specs.Sheet.{Class, SheetItem as PureItem, Sheet as PureSheet}
-use Rattle.rc_sheet_model.specs.Lists.{items_from, item_list}
-use Rattle.rc_play_model.specs.Path.{body_of, stage_in}
+use Rattle.rc_sheet_spec.specs.Sheet.{Class, SheetItem as PureItem, Sheet as PureSheet}
+use Rattle.rc_sheet_spec.specs.Lists.{items_from, item_list}
+use Rattle.rc_play_spec.specs.Path.{body_of, stage_in}
 
 pub item_list-from : (items : List PureItem) → item_list (items_from items) ≡ items
 item_list-from [] = refl

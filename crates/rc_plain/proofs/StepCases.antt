@@ -2,20 +2,20 @@
 use Rattle.std.proofs.Common.{◌≡◌, ℕ, ◌≤◌, ◌<◌, nat_le, true, false, List, [], ◌∷◌, length, Some, refl, sym, ap, ◌∙◌, arith}
 use Rattle.std.proofs.lemmas.Bool.{cond-true, cond-false, le-leb, lt-leb}
 use Rattle.std.proofs.lemmas.List.{nil_from_length}
-use Rattle.rc_sheet_model.specs.Sheet.{Effects, do_item, stage, choice, Alt, Class, Test, SheetItem, SheetItems}
-use Rattle.rc_sheet_model.specs.Lists.{item_list}
-use Rattle.rc_sheet_model.specs.WellFormed.{owner_count}
-use Rattle.rc_play_model.specs.Control.{Control, Frame}
-use Rattle.rc_play_model.specs.Owners.{mover}
-use Rattle.rc_play_model.specs.Table.{Table}
-use Rattle.rc_play_model.specs.About.{scene_at}
-use Rattle.rc_play_model.specs.Value.{test_value}
-use Rattle.rc_play_model.specs.Menu.{Item, menu_from}
-use Rattle.rc_play_model.specs.Effects.{Dealing, Point, does}
-use Rattle.rc_play_model.specs.Step.{Stage, Part, todo, round, Next, goes, stops, is_limit, is_done, decide, with_site, with_frames, at_menu, first_step, step, behind, opened, closed, passed, one_turn_more, at_round}
-use Rattle.rc_play_model.specs.Decision.{chosen_point, choose_first, choose, with_choice}
-use Rattle.rc_play_model.specs.Path.{Path, stage_in, left_of, past, at_mark, into, body_at}
-use Rattle.rc_play_model.proofs.PathLemmas.{left-item, left-round, left-into, turn_left, end_left}
+use Rattle.rc_sheet_spec.specs.Sheet.{Effects, do_item, stage, choice, Alt, Class, Test, SheetItem, SheetItems}
+use Rattle.rc_sheet_spec.specs.Lists.{item_list}
+use Rattle.rc_sheet_spec.specs.WellFormed.{owner_count}
+use Rattle.rc_play_spec.specs.Control.{Control, Frame}
+use Rattle.rc_play_spec.specs.Owners.{mover}
+use Rattle.rc_play_spec.specs.Table.{Table}
+use Rattle.rc_play_spec.specs.About.{scene_at}
+use Rattle.rc_play_spec.specs.Value.{test_value}
+use Rattle.rc_play_spec.specs.Menu.{Item, menu_from}
+use Rattle.rc_play_spec.specs.Effects.{Dealing, Point, does}
+use Rattle.rc_play_spec.specs.Step.{Stage, Part, todo, round, Next, goes, stops, is_limit, is_done, decide, with_site, with_frames, at_menu, first_step, step, behind, opened, closed, passed, one_turn_more, at_round}
+use Rattle.rc_play_spec.specs.Decision.{chosen_point, choose_first, choose, with_choice}
+use Rattle.rc_play_spec.specs.Path.{Path, stage_in, left_of, past, at_mark, into, body_at}
+use Rattle.rc_play_spec.proofs.PathLemmas.{left-item, left-round, left-into, turn_left, end_left}
 use Rattle.rc_plain.specs.Paths.{item_at, Leaves}
 use Rattle.rc_plain.specs.Plain.{Plain, config_of}
 

@@ -1,3 +1,4 @@
+pub mod Everyone
 pub mod Paths
 pub mod Plain
 pub mod State

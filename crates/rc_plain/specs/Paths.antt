@@ -1,10 +1,10 @@
 -- Paths of a machine into the items of a sheet.
 use Rattle.std.specs.Prelude.{◌≡◌, ℕ, Bool, true, false, List, [], ◌∷◌, ◌++◌, slice_get, Option, Some, None}
-use Rattle.rc_sheet_model.specs.Sheet.{Alt, choice, SheetItem, SheetItems, Sheet}
-use Rattle.rc_sheet_model.specs.Lists.{item_list}
-use Rattle.rc_play_model.specs.Step.{Stage}
-use Rattle.rc_play_model.specs.Menu.{alts_in}
-use Rattle.rc_play_model.specs.Path.{Path, stage_at, stage_in, body_at, next_item}
+use Rattle.rc_sheet_spec.specs.Sheet.{Alt, choice, SheetItem, SheetItems, Sheet}
+use Rattle.rc_sheet_spec.specs.Lists.{item_list}
+use Rattle.rc_play_spec.specs.Step.{Stage}
+use Rattle.rc_play_spec.specs.Menu.{alts_in}
+use Rattle.rc_play_spec.specs.Path.{Path, stage_at, stage_in, body_at, next_item}
 
 -- each of these places is that of a stage
 abbrev pub ArePlaces : List SheetItem → List ℕ → Type 0

@@ -1,14 +1,14 @@
 -- Machines as the definitions of play have them.
 use Rattle.std.specs.Prelude.{ℕ, ◌≤◌, List, [], slice_index_or, All}
-use Rattle.rc_sheet_model.specs.Sheet.{Alt}
-use Rattle.rc_sheet_model.specs.Lists.{item_list}
-use Rattle.rc_play_model.specs.Control.{Control}
-use Rattle.rc_play_model.specs.Table.{Table}
-use Rattle.rc_play_model.specs.About.{About, scene_at}
-use Rattle.rc_play_model.specs.Menu.{Item, menu_from}
-use Rattle.rc_play_model.specs.Step.{Config}
-use Rattle.rc_play_model.specs.Path.{Path, left_of}
-use Rattle.rc_play_model.specs.Fits.{HasFrames}
+use Rattle.rc_sheet_spec.specs.Sheet.{Alt}
+use Rattle.rc_sheet_spec.specs.Lists.{item_list}
+use Rattle.rc_play_spec.specs.Control.{Control}
+use Rattle.rc_play_spec.specs.Table.{Table}
+use Rattle.rc_play_spec.specs.About.{About, scene_at}
+use Rattle.rc_play_spec.specs.Menu.{Item, menu_from}
+use Rattle.rc_play_spec.specs.Step.{Config}
+use Rattle.rc_play_spec.specs.Path.{Path, left_of}
+use Rattle.rc_play_spec.specs.Fits.{HasFrames}
 use Rattle.rc_plain.specs.Paths.{IsPath}
 
 -- what a match is played by, the path to the next item, the table and the control

@@ -1,10 +1,10 @@
 -- States as the definitions of play have them, and what their steps lead to.
 use Rattle.std.specs.Prelude.{◌≡◌, ℕ, ◌<◌, length, Option, Some, None}
-use Rattle.rc_sheet_model.specs.Sheet.{choice}
-use Rattle.rc_play_model.specs.Menu.{alts_at}
-use Rattle.rc_play_model.specs.About.{About, menu_at}
-use Rattle.rc_play_model.specs.Effects.{Dealing}
-use Rattle.rc_play_model.specs.Step.{Config, Next, goes, stops, step}
+use Rattle.rc_sheet_spec.specs.Sheet.{choice}
+use Rattle.rc_play_spec.specs.Menu.{alts_at}
+use Rattle.rc_play_spec.specs.About.{About, menu_at}
+use Rattle.rc_play_spec.specs.Effects.{Dealing}
+use Rattle.rc_play_spec.specs.Step.{Config, Next, goes, stops, step}
 use Rattle.rc_rules.specs.Control.{control_seen, stop_seen}
 use Rattle.rc_rules.specs.Menu.{menu_seen}
 use Rattle.rc_rules.specs.declared.control.Stop.{Stop}

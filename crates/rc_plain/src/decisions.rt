@@ -1,8 +1,8 @@
 //! Decisions: what a mover may pick, and what follows.
 ghost use Rattle.std.specs.Prelude.{◌≡◌, ℕ, ◌+◌, ◌<◌, ◌^◌, length, Some};
-ghost use Rattle.rc_sheet_model.specs.Sheet.{choice};
-ghost use Rattle.rc_play_model.specs.Step.{goes};
-ghost use Rattle.rc_play_model.specs.Decision.{choose};
+ghost use Rattle.rc_sheet_spec.specs.Sheet.{choice};
+ghost use Rattle.rc_play_spec.specs.Step.{goes};
+ghost use Rattle.rc_play_spec.specs.Decision.{choose};
 ghost use Rattle.rc_ast.specs.Items.{alts_seen};
 ghost use Rattle.rc_rules.specs.Machine.{StopsAtDecision, menu_here};
 ghost use Rattle.rc_rules.specs.Menu.{item_seen};
@@ -10,12 +10,11 @@ ghost use Rattle.rc_plain.specs.Paths.{item_at};
 ghost use Rattle.rc_plain.specs.Plain.{IsInPlay, chosen_item};
 ghost use Rattle.rc_plain.specs.State.{IsReady, plain_of, config_at};
 
+use crate::do_item;
 use crate::state::PlainState;
 use rc_ast::Alt;
-use rc_effects::do_item;
 use rc_rules::{About, Dealer, Item};
-use rc_state::count_decision;
-use rc_value::current_of;
+use rc_value::{count_decision, current_of};
 
 impl PlainState {
     /// Takes an item out of the menu of the decision that is next, and does its effects.

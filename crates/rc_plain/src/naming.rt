@@ -1,13 +1,13 @@
 //! What items bind.
 ghost use Rattle.std.specs.Prelude.{◌≡◌, ◌<◌, [], length, map};
-ghost use Rattle.rc_play_model.specs.About.{scene_at};
-ghost use Rattle.rc_play_model.specs.ItemBounds.{bound_of};
-ghost use Rattle.rc_play_model.specs.Menu.{alt_in, bindings_of};
+ghost use Rattle.rc_play_spec.specs.About.{scene_at};
+ghost use Rattle.rc_play_spec.specs.ItemBounds.{bound_of};
+ghost use Rattle.rc_play_spec.specs.Menu.{alt_in, bindings_of};
 ghost use Rattle.rc_ast.specs.Items.{alts_seen};
 ghost use Rattle.rc_rules.specs.Bounds.{bounds_seen};
 ghost use Rattle.rc_rules.specs.Control.{frames_seen};
 ghost use Rattle.rc_rules.specs.Machine.{StopsAtDecision, bounds_here, menu_here};
-ghost use Rattle.rc_state.specs.Bindings.{AreAltsOutside};
+ghost use Rattle.rc_value.specs.Bindings.{AreAltsOutside};
 ghost use Rattle.rc_plain.specs.State.{IsReady, config_at};
 
 use crate::state::PlainState;

@@ -1,8 +1,8 @@
 //! A path into a sheet: which item is next.
 ghost use Rattle.std.specs.Prelude.{◌≡◌, ◌+◌, ◌<◌, ◌^◌, [], true, false, length, map, option_map, IsSome, Some, slice_get, ℕ, List};
-ghost use Rattle.rc_sheet_model.specs.Sheet.{Alt as PureAlt, choice};
-ghost use Rattle.rc_play_model.specs.Step.{Stage};
-ghost use Rattle.rc_play_model.specs.Path.{body_at, body_of, stage_at, stage_in, past, at_mark, into};
+ghost use Rattle.rc_sheet_spec.specs.Sheet.{Alt as PureAlt, choice};
+ghost use Rattle.rc_play_spec.specs.Step.{Stage};
+ghost use Rattle.rc_play_spec.specs.Path.{body_at, body_of, stage_at, stage_in, past, at_mark, into};
 ghost use Rattle.rc_ast.specs.Items.{item_seen, alts_seen};
 ghost use Rattle.rc_plain.specs.Paths.{item_at, Leaves};
 
@@ -25,7 +25,7 @@ pub struct Path {
 
 impl Model for Path {
     ghost use Rattle.std.specs.Coded.{codes};
-    ghost use Rattle.rc_play_model.specs.Path.{Path};
+    ghost use Rattle.rc_play_spec.specs.Path.{Path};
 
     ghost Value = { Path };
 

@@ -1,14 +1,14 @@
 //! The path to a choice.
 ghost use Rattle.std.specs.Prelude.{◌≡◌, ℕ, ◌+◌, ◌<◌, ◌≤◌, [], length, Some, IsSome, IfSome, IfNone};
-ghost use Rattle.rc_play_model.specs.Menu.{alts_at};
-ghost use Rattle.rc_play_model.specs.Path.{items_depth};
+ghost use Rattle.rc_play_spec.specs.Menu.{alts_at};
+ghost use Rattle.rc_play_spec.specs.Path.{items_depth};
 ghost use Rattle.rc_ast.specs.Items.{items_seen};
 ghost use Rattle.rc_plain.specs.Paths.{IsPathTo, Finds};
 
 use crate::path::{Path, Places};
 use arrayvec::ArrayVec;
 use rc_ast::SheetItem;
-use rc_play_model::few_stages_are_open;
+use rc_play_spec::few_stages_are_open;
 use rc_rules::{About, Control};
 
 /// The site of a control that has one.

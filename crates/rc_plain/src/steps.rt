@@ -1,8 +1,8 @@
 //! The steps of a match.
 ghost use Rattle.std.specs.Prelude.{◌≡◌, ℕ, ◌+◌, ◌<◌, ◌^◌, IsSome, None, Some, true};
-ghost use Rattle.rc_sheet_model.specs.Sheet.{SheetItems, do_item, stage, choice};
-ghost use Rattle.rc_play_model.specs.Step.{goes, step};
-ghost use Rattle.rc_play_model.specs.Stop.{stop_of};
+ghost use Rattle.rc_sheet_spec.specs.Sheet.{SheetItems, do_item, stage, choice};
+ghost use Rattle.rc_play_spec.specs.Step.{goes, step};
+ghost use Rattle.rc_play_spec.specs.Stop.{stop_of};
 ghost use Rattle.rc_ast.specs.Expressions.{test_seen};
 ghost use Rattle.rc_ast.specs.Effects.{effects_seen};
 ghost use Rattle.rc_ast.specs.Items.{item_seen, alts_seen};
@@ -11,14 +11,15 @@ ghost use Rattle.rc_rules.specs.Machine.{IsWhereItStops};
 ghost use Rattle.rc_plain.specs.Paths.{item_at};
 ghost use Rattle.rc_plain.specs.State.{KeepsMenu, IsReady, config_at, next_seen, LeadsTo};
 
+use crate::do_effects;
 use crate::state::PlainState;
 use rc_ast::{Alt, Class, Effect, SheetItem, Test};
-use rc_effects::do_effects;
 use rc_menu::fill_menu_at;
-use rc_play_model::{sites_fix_choices, stops_stay};
+use rc_play_spec::{sites_fix_choices, stops_stay};
 use rc_rules::{About, Dealer, Stop};
-use rc_state::{close_frame, has_ended, member_count, open_frame, pass_frame};
-use rc_value::{Bindings, current_of};
+use rc_value::{
+    Bindings, close_frame, current_of, has_ended, member_count, open_frame, pass_frame,
+};
 
 impl PlainState {
     /// Does the effects that are next.

@@ -1,8 +1,8 @@
 -- Parts that stand in turn for values of which something holds.
 use Rattle.std.proofs.Common.{List, [], ◌∷◌, All}
 use Rattle.std.proofs.lemmas.List.Elements.{All-nil, All-cons}
-use Rattle.rc_model.specs.Tree.{Tree, Trees, nil, cons}
-use Rattle.rc_plan_model.specs.PlanStands.{InTurn}
+use Rattle.rc_base.specs.Tree.{Tree, Trees, nil, cons}
+use Rattle.rc_play_spec.specs.PlanStands.{InTurn}
 
 pub both_in_turn : {A : Type 0} (Both Stands : A → Tree → Type 0) (Holds : A → Type 0)
     → ((a : A) (tree : Tree) → Both a tree → Stands a tree × Holds a) → (list : List A) (parts : Trees) → InTurn Both list parts

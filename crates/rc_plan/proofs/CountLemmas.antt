@@ -2,8 +2,8 @@
 use Rattle.std.proofs.Common.{◌≡◌, ℕ, ◌+◌, Bool, true, cond, List, [], ◌∷◌, ◌++◌, map, sym, ap, ◌∙◌, arith}
 use Rattle.std.proofs.lemmas.List.{map-append}
 use Rattle.std.proofs.lemmas.List.FromFn.{map-range_with_len_more}
-use Rattle.rc_play_model.specs.Plan.{Deal as PureDeal}
-use Rattle.rc_plan_model.specs.PlanStands.{later, counted_from}
+use Rattle.rc_play_spec.specs.Plan.{Deal as PureDeal}
+use Rattle.rc_play_spec.specs.PlanStands.{later, counted_from}
 use Rattle.rc_rules.specs.Plan.{deal_seen}
 use Rattle.rc_rules.specs.declared.plan.Deal.{Deal}
 

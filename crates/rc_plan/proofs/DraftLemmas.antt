@@ -4,16 +4,16 @@ use Rattle.std.specs.Prelude.{nat_le}
 use Rattle.std.proofs.lemmas.Bool.{and_parts, eqb-true, leb-true}
 use Rattle.std.proofs.lemmas.List.{length-map, append-nil}
 use Rattle.std.proofs.lemmas.List.FromFn.{length-map-range_with_len}
-use Rattle.rc_model.specs.Tree.{Tree, word, list, Trees, nil, cons, count, start_of}
-use Rattle.rc_sheet_model.specs.Rows.{◌▸◌, End, Row, Atom}
-use Rattle.rc_play_model.specs.Plan.{Strategy, Deal}
-use Rattle.rc_model.specs.Limits.{largest_seed, most_matches, most_turns, most_turns_in_all}
-use Rattle.rc_plan_model.specs.Limits.{IsBetween, IsWithinLimits, IsStrategyWithin, IsDealWithin}
-use Rattle.rc_plan_model.specs.PlanStands.{Number, InTurn, StandsStrategy, StandsDeal, later, StandsSeats, StandsMatches, StandsTurns, PlanStands}
-use Rattle.rc_plan_model.specs.Faults.{fault_unless, is_between, number_in, seat_faults, is_countable, from_faults, each, match_faults, turn_faults, matches_said, all_matches_said, match_parts, turn_limit, is_small, second_round}
-use Rattle.rc_plan_model.specs.declared.fault.PlanKind.TheVariants.{Seats, Matches, Turns, TooLarge}
-use Rattle.rc_plan_model.proofs.NoFaults.{number_is, count_in_turn}
-use Rattle.rc_plan_model.proofs.SomePlan.{holds_if, neither, counted_within}
+use Rattle.rc_base.specs.Tree.{Tree, word, list, Trees, nil, cons, count, start_of}
+use Rattle.rc_sheet_spec.specs.Rows.{◌▸◌, End, Row, Atom}
+use Rattle.rc_play_spec.specs.Plan.{Strategy, Deal}
+use Rattle.rc_base.specs.Limits.{largest_seed, most_matches, most_turns, most_turns_in_all}
+use Rattle.rc_play_spec.specs.Limits.{IsBetween, IsWithinLimits, IsStrategyWithin, IsDealWithin}
+use Rattle.rc_play_spec.specs.PlanStands.{Number, InTurn, StandsStrategy, StandsDeal, later, StandsSeats, StandsMatches, StandsTurns, PlanStands}
+use Rattle.rc_play_spec.specs.Faults.{fault_unless, is_between, number_in, seat_faults, is_countable, from_faults, each, match_faults, turn_faults, matches_said, all_matches_said, match_parts, turn_limit, is_small, second_round}
+use Rattle.rc_play_spec.specs.declared.plan_fault.PlanKind.TheVariants.{Seats, Matches, Turns, TooLarge}
+use Rattle.rc_play_spec.proofs.NoFaults.{number_is, count_in_turn}
+use Rattle.rc_play_spec.proofs.SomePlan.{holds_if, neither, counted_within}
 use Rattle.rc_rules.specs.Plan.{strategy_seen, deal_seen}
 use Rattle.rc_plan.specs.Reads.{IsStrategy, AreSeats, IsDeal, IsFrom}
 use Rattle.rc_plan.specs.Matches.{AreMatches}

@@ -1,11 +1,11 @@
 -- The first fault of a form: of the first round, or else of what its parts say together.
 use Rattle.std.proofs.Common.{◌≡◌, ℕ, List, [], ◌∷◌, ◌++◌, Option, Some, None, refl, sym, ap, ◌∙◌}
-use Rattle.rc_model.specs.Placed.{IsPlaced}
-use Rattle.rc_model.specs.Tree.{Tree}
-use Rattle.rc_plan_model.specs.Faults.{first_round, second_round, plan_faults}
-use Rattle.rc_plan_model.specs.PlanFault.{first, IsPlanFault}
-use Rattle.rc_plan_model.specs.declared.fault.PlanFault.{PlanFault}
-use Rattle.rc_plan_model.proofs.InOrder.{first_is_first}
+use Rattle.rc_base.specs.Placed.{IsPlaced}
+use Rattle.rc_base.specs.Tree.{Tree}
+use Rattle.rc_play_spec.specs.Faults.{first_round, second_round, plan_faults}
+use Rattle.rc_play_spec.specs.PlanFault.{first, IsPlanFault}
+use Rattle.rc_play_spec.specs.declared.plan_fault.PlanFault.{PlanFault}
+use Rattle.rc_play_spec.proofs.InOrder.{first_is_first}
 use Rattle.rc_plan.specs.declared.draft.Draft.{Draft}
 use Rattle.rc_plan.specs.declared.fail.PlanFail.{PlanFail}
 use Rattle.rc_plan.specs.declared.fail.PlanFail.TheVariants.{Fault, Memory}

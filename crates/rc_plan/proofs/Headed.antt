@@ -3,11 +3,11 @@ use Prim.Native.String.{String}
 use Rattle.std.proofs.Common.{◌≡◌, ℕ, Bool, true, false, cond, List, [], ◌∷◌, refl, sym, ap, subst, ◌∙◌}
 use Rattle.std.specs.Prelude.{codes}
 use Rattle.std.proofs.lemmas.Slice.Eq.{bytes_eq-Decides}
-use Rattle.rc_model.specs.Tree.{Tree, word, list, Trees, nil, cons, start_of}
-use Rattle.rc_sheet_model.specs.Rows.{◌▸◌, Row, Atom}
-use Rattle.rc_plan_model.specs.Faults.{is_word, headed, fault, strategy, each, row, script_number, any_number, rounds}
-use Rattle.rc_plan_model.specs.declared.fault.PlanKind.TheVariants.{Shape}
-use Rattle.rc_plan_model.specs.declared.fault.PlanFault.{PlanFault}
+use Rattle.rc_base.specs.Tree.{Tree, word, list, Trees, nil, cons, start_of}
+use Rattle.rc_sheet_spec.specs.Rows.{◌▸◌, Row, Atom}
+use Rattle.rc_play_spec.specs.Faults.{is_word, headed, fault, strategy, each, row, script_number, any_number, rounds}
+use Rattle.rc_play_spec.specs.declared.plan_fault.PlanKind.TheVariants.{Shape}
+use Rattle.rc_play_spec.specs.declared.plan_fault.PlanFault.{PlanFault}
 use Rattle.rc_plan.specs.Reads.{IsBehind, IsNotHeaded}
 
 pub word_is : (text : List ℕ) (tree : Tree) → is_word text tree ≡ true → (from : ℕ) × (to : ℕ) × (tree ≡ word text from to)

@@ -2,12 +2,12 @@
 use Rattle.std.proofs.Common.{◌≡◌, ℕ, ◌≢◌, Bool, true, false, cond, List, [], ◌∷◌, length, eqb, refl, ◌∙◌, sym, arith}
 use Rattle.std.proofs.lemmas.Bool.{eqb-true}
 use Rattle.std.specs.Prelude.{nat_le}
-use Rattle.rc_model.specs.Tree.{count}
+use Rattle.rc_base.specs.Tree.{count}
 use Rattle.rc_form.specs.Form.{trees_of, packed}
 use Rattle.rc_form.specs.declared.form.Form.{Form}
 use Rattle.rc_form.proofs.FormLemmas.{count_packed}
-use Rattle.rc_plan_model.specs.Faults.{Place, row, in_turn, each, some, fault}
-use Rattle.rc_plan_model.specs.declared.fault.PlanKind.TheVariants.{Shape}
+use Rattle.rc_play_spec.specs.Faults.{Place, row, in_turn, each, some, fault}
+use Rattle.rc_play_spec.specs.declared.plan_fault.PlanKind.TheVariants.{Shape}
 
 pub other_length : (places : List Place) (from : ℕ) (forms : List Form) → length forms ≢ length places
     → row places from (packed (trees_of forms)) ≡ fault Shape from

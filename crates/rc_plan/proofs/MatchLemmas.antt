@@ -4,9 +4,9 @@ use Rattle.std.specs.Prelude.{codes}
 use Rattle.std.proofs.lemmas.Bool.{le-leb, lt-leb}
 use Rattle.rc_form.specs.Form.{trees_of, packed}
 use Rattle.rc_form.specs.declared.form.Form.{Form}
-use Rattle.rc_model.specs.Tree.{list, Trees, nil, cons}
-use Rattle.rc_plan_model.specs.Faults.{match, match_list, is_word, row, some, any_number, fault, each, lists_among}
-use Rattle.rc_plan_model.specs.declared.fault.PlanKind.TheVariants.{Shape}
+use Rattle.rc_base.specs.Tree.{list, Trees, nil, cons}
+use Rattle.rc_play_spec.specs.Faults.{match, match_list, is_word, row, some, any_number, fault, each, lists_among}
+use Rattle.rc_play_spec.specs.declared.plan_fault.PlanKind.TheVariants.{Shape}
 use Rattle.rc_plan.specs.Reads.{IsNotHeaded}
 use Rattle.rc_plan.proofs.Headed.{is_behind}
 use Rattle.rc_plan.proofs.Lengths.{some_parts}

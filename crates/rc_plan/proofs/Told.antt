@@ -1,10 +1,10 @@
 -- What is read, said of another form and its faults.
 use Rattle.std.proofs.Common.{◌≡◌, ℕ, List, [], ◌∷◌, ◌++◌, Result, Ok, Err, IfErr, IsErrAnd, Some, sym, ap, subst, ◌∙◌}
 use Rattle.std.proofs.lemmas.Result.{err_from_is_err_and}
-use Rattle.rc_plan_model.specs.Faults.{fault}
-use Rattle.rc_plan_model.specs.PlanFault.{first}
-use Rattle.rc_plan_model.specs.declared.fault.PlanKind.TheVariants.{Shape}
-use Rattle.rc_plan_model.specs.declared.fault.PlanFault.{PlanFault}
+use Rattle.rc_play_spec.specs.Faults.{fault}
+use Rattle.rc_play_spec.specs.PlanFault.{first}
+use Rattle.rc_play_spec.specs.declared.plan_fault.PlanKind.TheVariants.{Shape}
+use Rattle.rc_play_spec.specs.declared.plan_fault.PlanFault.{PlanFault}
 use Rattle.rc_plan.specs.declared.fail.PlanFail.{PlanFail}
 use Rattle.rc_plan.specs.declared.fail.PlanFail.TheVariants.{Fault, Memory}
 use Rattle.rc_plan.specs.Reads.{Reads, IfPlanFault}

@@ -1,11 +1,11 @@
 -- Loops that read part by part.
 use Rattle.std.proofs.Common.{◌≡◌, ℕ, ◌≤◌, List, [], length, drop, sym, subst}
 use Rattle.std.proofs.lemmas.List.{append-nil, at_drop_all}
-use Rattle.rc_model.specs.Tree.{Tree}
+use Rattle.rc_base.specs.Tree.{Tree}
 use Rattle.rc_form.specs.Form.{trees_of, packed}
 use Rattle.rc_form.specs.declared.form.Form.{Form}
-use Rattle.rc_plan_model.specs.Faults.{Place, each}
-use Rattle.rc_plan_model.specs.PlanStands.{InTurn}
+use Rattle.rc_play_spec.specs.Faults.{Place, each}
+use Rattle.rc_play_spec.specs.PlanStands.{InTurn}
 use Rattle.rc_plan.specs.Reads.{IsReadSoFar}
 
 module _ {A : Type 0} (Stands : A → Tree → Type 0) (place : Place) where

@@ -1,13 +1,13 @@
 -- What the parts of a plan say, before they are looked at together.
 use Rattle.std.specs.Prelude.{◌≡◌, ℕ, ◌*◌, ◌&&◌, ◌==◌, Bool, nat_le, List, [], ◌++◌, length, map}
-use Rattle.rc_model.specs.Tree.{Tree, start_of}
-use Rattle.rc_sheet_model.specs.Rows.{◌▸◌, End, Row, Atom}
-use Rattle.rc_play_model.specs.Plan.{Deal, Plan}
-use Rattle.rc_model.specs.Limits.{most_matches, most_turns, most_turns_in_all}
-use Rattle.rc_plan_model.specs.PlanStands.{counted_from}
-use Rattle.rc_plan_model.specs.Faults.{fault_unless, is_between, is_countable}
-use Rattle.rc_plan_model.specs.declared.fault.PlanKind.TheVariants.{Seats, Matches, Turns, TooLarge}
-use Rattle.rc_plan_model.specs.declared.fault.PlanFault.{PlanFault}
+use Rattle.rc_base.specs.Tree.{Tree, start_of}
+use Rattle.rc_sheet_spec.specs.Rows.{◌▸◌, End, Row, Atom}
+use Rattle.rc_play_spec.specs.Plan.{Deal, Plan}
+use Rattle.rc_base.specs.Limits.{most_matches, most_turns, most_turns_in_all}
+use Rattle.rc_play_spec.specs.PlanStands.{counted_from}
+use Rattle.rc_play_spec.specs.Faults.{fault_unless, is_between, is_countable}
+use Rattle.rc_play_spec.specs.declared.plan_fault.PlanKind.TheVariants.{Seats, Matches, Turns, TooLarge}
+use Rattle.rc_play_spec.specs.declared.plan_fault.PlanFault.{PlanFault}
 use Rattle.rc_rules.specs.Plan.{strategy_seen, deal_seen}
 use Rattle.rc_plan.specs.Reads.{IsAnyNumber, AreSeats}
 use Rattle.rc_plan.specs.Matches.{AreMatches}

@@ -1,8 +1,8 @@
 -- What is read of the matches.
 use Rattle.std.specs.Prelude.{◌≡◌, Bool, true, map}
-use Rattle.rc_model.specs.Tree.{Tree, Trees, start_of}
-use Rattle.rc_sheet_model.specs.Rows.{◌▸◌, End, Some, Row, Atom}
-use Rattle.rc_plan_model.specs.PlanStands.{InTurn}
+use Rattle.rc_base.specs.Tree.{Tree, Trees, start_of}
+use Rattle.rc_sheet_spec.specs.Rows.{◌▸◌, End, Some, Row, Atom}
+use Rattle.rc_play_spec.specs.PlanStands.{InTurn}
 use Rattle.rc_rules.specs.Plan.{deal_seen}
 use Rattle.rc_plan.specs.Reads.{IsDeal, IsFrom}
 use Rattle.rc_plan.specs.declared.matches.Match.{Match}

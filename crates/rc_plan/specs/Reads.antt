@@ -1,14 +1,14 @@
 -- What reading the form at a place gives.
 use Rattle.std.specs.Prelude.{◌≡◌, ℕ, List, [], ◌++◌, Result, Ok, Err, Some}
-use Rattle.rc_model.specs.Tree.{Tree, word, list, Trees, cons, start_of}
-use Rattle.rc_sheet_model.specs.Rows.{◌▸◌, End, Some as AtLeastOne, Row, Atom}
-use Rattle.rc_play_model.specs.Plan.{Strategy, Deal}
-use Rattle.rc_model.specs.Limits.{largest_seed, most_rounds}
-use Rattle.rc_plan_model.specs.Limits.{IsBetween, IsStrategyWithin}
-use Rattle.rc_plan_model.specs.PlanStands.{Number, InTurn, StandsStrategy}
-use Rattle.rc_plan_model.specs.Faults.{Place, each}
-use Rattle.rc_plan_model.specs.PlanFault.{first}
-use Rattle.rc_plan_model.specs.declared.fault.PlanFault.{PlanFault}
+use Rattle.rc_base.specs.Tree.{Tree, word, list, Trees, cons, start_of}
+use Rattle.rc_sheet_spec.specs.Rows.{◌▸◌, End, Some as AtLeastOne, Row, Atom}
+use Rattle.rc_play_spec.specs.Plan.{Strategy, Deal}
+use Rattle.rc_base.specs.Limits.{largest_seed, most_rounds}
+use Rattle.rc_play_spec.specs.Limits.{IsBetween, IsStrategyWithin}
+use Rattle.rc_play_spec.specs.PlanStands.{Number, InTurn, StandsStrategy}
+use Rattle.rc_play_spec.specs.Faults.{Place, each}
+use Rattle.rc_play_spec.specs.PlanFault.{first}
+use Rattle.rc_play_spec.specs.declared.plan_fault.PlanFault.{PlanFault}
 use Rattle.rc_plan.specs.declared.fail.PlanFail.{PlanFail}
 use Rattle.rc_plan.specs.declared.fail.PlanFail.TheVariants.{Fault, Memory}
 

@@ -1,10 +1,10 @@
 //! What the parts of a plan say, and whether they say it together.
 ghost use Rattle.std.specs.Prelude.{◌≡◌, ◌≤◌, [], IfOk, map, true};
-ghost use Rattle.rc_plan_model.specs.PlanStands.{counted_from};
+ghost use Rattle.rc_play_spec.specs.PlanStands.{counted_from};
 ghost use Rattle.rc_form.specs.Form.{tree_of};
-ghost use Rattle.rc_model.specs.Limits.{most_turns};
-ghost use Rattle.rc_plan_model.specs.Faults as place;
-ghost use Rattle.rc_plan_model.specs.PlanFault.{first};
+ghost use Rattle.rc_base.specs.Limits.{most_turns};
+ghost use Rattle.rc_play_spec.specs.Faults as place;
+ghost use Rattle.rc_play_spec.specs.PlanFault.{first};
 ghost use Rattle.rc_rules.specs.Plan.{plan_seen, deal_seen};
 ghost use Rattle.rc_plan.specs.Reads.{Reads};
 ghost use Rattle.rc_plan.specs.Draft.{IsDraft, IsLimit, deals_said, count_faults, are_few, draft_faults, plan_drafted};
@@ -13,10 +13,10 @@ use crate::fail::PlanFail;
 use crate::forms::{parts_behind, read_any, start_of};
 use crate::matches::{Matches, read_matches};
 use crate::strategies::read_seats;
+use rc_base::limits::{LARGEST_SEED, MOST_MATCHES, MOST_TURNS, MOST_TURNS_IN_ALL};
 use rc_deck::Memory;
 use rc_form::Form;
-use rc_names::limits::{LARGEST_SEED, MOST_MATCHES, MOST_TURNS, MOST_TURNS_IN_ALL};
-use rc_plan_model::{PlanFault, PlanKind};
+use rc_play_spec::{PlanFault, PlanKind};
 use rc_rules::{Deal, Plan, Strategy};
 use std::alloc::Global;
 

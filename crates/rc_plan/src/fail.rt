@@ -1,8 +1,8 @@
 //! Why a form gives no plan.
 ghost use Rattle.std.specs.Prelude.{◌≡◌};
-ghost use Rattle.rc_plan_model.specs.declared.fault.PlanKind.TheVariants as kind;
+ghost use Rattle.rc_play_spec.specs.declared.plan_fault.PlanKind.TheVariants as kind;
 
-use rc_plan_model::{PlanFault, PlanKind};
+use rc_play_spec::{PlanFault, PlanKind};
 
 /// Why there is no plan.
 #[derive(Clone, Copy, PartialEq, Eq, Debug)]

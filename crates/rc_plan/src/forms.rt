@@ -1,14 +1,14 @@
 //! Words and numbers at their places.
 ghost use Rattle.std.specs.Prelude.{◌≡◌, IfSome, IfNone};
 ghost use Rattle.rc_form.specs.Form.{tree_of, trees_of, packed};
-ghost use Rattle.rc_model.specs.Tree.{start_of};
-ghost use Rattle.rc_plan_model.specs.Faults as place;
+ghost use Rattle.rc_base.specs.Tree.{start_of};
+ghost use Rattle.rc_play_spec.specs.Faults as place;
 ghost use Rattle.rc_plan.specs.Reads.{Reads, IsNumberBetween, IsBehind, IsNotHeaded};
 
 use crate::fail::PlanFail;
+use rc_base::limits::LARGEST_SEED;
 use rc_form::{Form, natural};
-use rc_names::limits::LARGEST_SEED;
-use rc_plan_model::PlanKind;
+use rc_play_spec::PlanKind;
 
 /// Where a form begins.
 pub fn start_of(form: &Form) -> u32

@@ -9,5 +9,5 @@ mod reading;
 mod strategies;
 
 pub use fail::PlanFail;
-pub use rc_plan_model::{PlanFault, PlanKind};
+pub use rc_play_spec::{PlanFault, PlanKind};
 pub use reading::plan_of;

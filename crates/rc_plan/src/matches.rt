@@ -1,10 +1,10 @@
 //! The matches of a plan.
 ghost use Rattle.std.specs.Prelude.{◌≡◌, ◌≤◌, ◌∷◌, [], map, length, true, false, Some};
-ghost use Rattle.rc_plan_model.specs.PlanFault.{first};
-ghost use Rattle.rc_model.specs.Tree.{cons, nil};
+ghost use Rattle.rc_play_spec.specs.PlanFault.{first};
+ghost use Rattle.rc_base.specs.Tree.{cons, nil};
 ghost use Rattle.rc_form.specs.Form.{tree_of, trees_of, packed};
-ghost use Rattle.rc_plan_model.specs.Faults as place;
-ghost use Rattle.rc_plan_model.specs.PlanStands.{InTurn};
+ghost use Rattle.rc_play_spec.specs.Faults as place;
+ghost use Rattle.rc_play_spec.specs.PlanStands.{InTurn};
 ghost use Rattle.rc_rules.specs.Plan.{deal_seen};
 ghost use Rattle.rc_plan.specs.Reads.{Reads, IfPlanFault, IsDeal, IsPair, IsCount};
 ghost use Rattle.rc_plan.specs.Matches.{IsMatch, AreMatchParts, AreMatches};

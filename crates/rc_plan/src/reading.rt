@@ -1,11 +1,11 @@
 //! The plan of a form.
 ghost use Rattle.std.specs.Prelude.{◌≡◌, ◌≤◌, ℕ, [], length, IfOk, IfErr};
-ghost use Rattle.rc_model.specs.Placed.{IsPlaced};
+ghost use Rattle.rc_base.specs.Placed.{IsPlaced};
 ghost use Rattle.rc_form.specs.Form.{tree_of};
-ghost use Rattle.rc_plan_model.specs.Faults.{plan_faults};
-ghost use Rattle.rc_plan_model.specs.Limits.{IsWithinLimits};
-ghost use Rattle.rc_plan_model.specs.PlanFault.{IsPlanFault};
-ghost use Rattle.rc_plan_model.specs.PlanStands.{PlanStands};
+ghost use Rattle.rc_play_spec.specs.Faults.{plan_faults};
+ghost use Rattle.rc_play_spec.specs.Limits.{IsWithinLimits};
+ghost use Rattle.rc_play_spec.specs.PlanFault.{IsPlanFault};
+ghost use Rattle.rc_play_spec.specs.PlanStands.{PlanStands};
 ghost use Rattle.rc_rules.specs.Plan.{plan_seen};
 ghost use Rattle.rc_plan.specs.Reads.{IfPlanFault};
 

@@ -1,15 +1,15 @@
 //! The strategies of the seats.
 ghost use Rattle.std.specs.Prelude.{◌∷◌, [], map};
 ghost use Rattle.rc_form.specs.Form.{tree_of, trees_of, packed};
-ghost use Rattle.rc_plan_model.specs.Faults as place;
-ghost use Rattle.rc_plan_model.specs.PlanStands.{InTurn};
+ghost use Rattle.rc_play_spec.specs.Faults as place;
+ghost use Rattle.rc_play_spec.specs.PlanStands.{InTurn};
 ghost use Rattle.rc_rules.specs.Plan.{strategy_seen};
 ghost use Rattle.rc_plan.specs.Reads.{Reads, IsNumberBetween, IsStrategy, AreSeats, IsKey, IsRollout};
 
 use crate::fail::PlanFail;
 use crate::forms::{parts_behind, read_any, read_number, start_of};
+use rc_base::limits::MOST_ROUNDS;
 use rc_form::Form;
-use rc_names::limits::MOST_ROUNDS;
 use rc_rules::Strategy;
 use std::alloc::Global;
 

@@ -1,8 +1,8 @@
 -- Sheets whose names are numbered by hand, and words by their text.
 use Prim.Native.String.{String}
 use Rattle.std.specs.Prelude.{ℕ, List, [], ◌∷◌, codes}
-use Rattle.rc_model.specs.Token.{Token, opening, closing, atom, odd, tokens}
-use Rattle.rc_sheet_model.specs.Sheet.{LocKind, Class, LocName, NumName}
+use Rattle.rc_base.specs.Token.{Token, opening, closing, atom, odd, tokens}
+use Rattle.rc_sheet_spec.specs.Sheet.{LocKind, Class, LocName, NumName}
 
 abbrev atoms : List Token → List (List ℕ)
 atoms [] = []

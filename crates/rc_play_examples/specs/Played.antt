@@ -1,15 +1,15 @@
 -- The house text of a source: its tokens spell a sheet and a plan, each is read off its form, and the plan's matches are played.
 use Rattle.std.specs.Prelude.{ℕ, ◌+◌, List, [], ◌∷◌, ◌++◌, map, slice_index, codes, bytes_eq, Option, None, option_map, unwrap_or, Ok, if◌then◌else◌}
-use Rattle.rc_model.specs.Numbers.{below}
-use Rattle.rc_model.specs.Token.{tokens}
-use Rattle.rc_model.specs.Tree.{Tree, word, list, Trees, nil, cons}
-use Rattle.rc_model.specs.Literal.{natural}
+use Rattle.rc_base.specs.Numbers.{below}
+use Rattle.rc_base.specs.Token.{tokens}
+use Rattle.rc_base.specs.Tree.{Tree, word, list, Trees, nil, cons}
+use Rattle.rc_base.specs.Literal.{natural}
 use Rattle.rc_form.specs.Read.{Reading, read}
-use Rattle.rc_naming.specs.Naming.{naming_of}
-use Rattle.rc_reading.specs.ReadSheet.{sheet_at}
-use Rattle.rc_play_model.specs.Plan.{Strategy, scripted, random, rollout, Deal, Plan}
-use Rattle.rc_play_model.specs.About.{about_of}
-use Rattle.rc_play_model.specs.Keyed.{keyed_house_text}
+use Rattle.rc_resolve.specs.Naming.{naming_of}
+use Rattle.rc_sheet.specs.ReadSheet.{sheet_at}
+use Rattle.rc_play_spec.specs.Plan.{Strategy, scripted, random, rollout, Deal, Plan}
+use Rattle.rc_play_spec.specs.About.{about_of}
+use Rattle.rc_play_spec.specs.Keyed.{keyed_house_text}
 
 -- the number that a word spells
 abbrev pub number_of : Tree → ℕ

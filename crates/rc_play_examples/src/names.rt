@@ -1,10 +1,10 @@
 //! The names of sheets, numbered in the order in which the printed sheet mentions them first. No function here does
 //! anything: the check proves each contract by computing it.
 ghost use Rattle.std.specs.Prelude.{◌≡◌, [], ◌∷◌};
-ghost use Rattle.rc_sheet_model.specs.Sheet.{hloc, vloc, iloc, mem, game_class, player_class, team_class};
-ghost use Rattle.rc_sheet_model.specs.FormMentions.{names_of};
-ghost use Rattle.rc_sheet_model.specs.Examples.{form_of};
-ghost use Rattle.rc_naming.specs.Naming.{naming_of};
+ghost use Rattle.rc_sheet_spec.specs.Sheet.{hloc, vloc, iloc, mem, game_class, player_class, team_class};
+ghost use Rattle.rc_sheet_spec.specs.FormMentions.{names_of};
+ghost use Rattle.rc_sheet_spec.specs.Examples.{form_of};
+ghost use Rattle.rc_resolve.specs.Naming.{naming_of};
 ghost use Rattle.rc_play_examples.specs.Names.{words, loc, num, decks_first, lines_in_order, branches_in_order, words_once, kinds_apart, fixed_words, stages_and_owners, domains_first};
 
 /// The words of each kind are numbered by their first mention. No text that the program writes shows these numbers.

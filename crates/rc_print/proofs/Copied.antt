@@ -1,10 +1,10 @@
 -- A form that is printed in the place of another one, by the rows of the grammar.
 use Prim.Native.String.{String}
 use Rattle.std.proofs.Common.{◌≡◌, ℕ, suc, ◌-◌, true, List, codes, refl, ap, ◌∙◌, nat_le, inl, sym}
-use Rattle.rc_model.specs.Tree.{Tree, word, list, Trees, nil, cons, count, IsOpenAtMost, AreOpenAtMost}
-use Rattle.rc_sheet_model.specs.Rows.{◌▸◌, End, AtLeast, Row, Word, Atom}
-use Rattle.rc_sheet_model.specs.Printing.{keyword}
-use Rattle.rc_sheet_model.specs.WellFormed.{is_atom}
+use Rattle.rc_base.specs.Tree.{Tree, word, list, Trees, nil, cons, count, IsOpenAtMost, AreOpenAtMost}
+use Rattle.rc_sheet_spec.specs.Rows.{◌▸◌, End, AtLeast, Row, Word, Atom}
+use Rattle.rc_sheet_spec.specs.Printing.{keyword}
+use Rattle.rc_sheet_spec.specs.WellFormed.{is_atom}
 use Rattle.rc_print.specs.Respelled.{IsWordRespelled, IsRespelled, AreRespelled}
 use Rattle.rc_print.specs.Unplaced.{IsBare, AreBare}
 

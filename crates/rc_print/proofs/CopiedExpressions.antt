@@ -1,13 +1,13 @@
 -- Expressions and tests, printed in the place of their forms.
 use Prim.Native.String.{String}
 use Rattle.std.proofs.Common.{◌≡◌, ℕ, true, codes, refl, sym, subst}
-use Rattle.rc_model.specs.Tree.{Tree, list, Trees, cons}
-use Rattle.rc_sheet_model.specs.Sheet.{Sort, card_sort, group_sort, CardExpr, card_var, top_card, bottom_card, max_card, min_card, CollExpr, group_var, cards_in, filtered, union_of, known_in, CollExprs, no_coll, coll, IntExpr, literal, number, size_of, sum_of, worth_of, add, subtract, multiply, Test, eq_int, eq_card, eq_attr, eq_who, ne, less, less_eq, more, more_eq, has_value, and_of, or_of, not_of, all_of, any_of, Tests, no_test, test, Domain, each_player, each_card, each_group, Sheet}
-use Rattle.rc_sheet_model.specs.Rows.{◌▸◌, End, Row, Atom}
-use Rattle.rc_sheet_model.specs.Naming.{Naming, Scope, bind, sort_of, Named, Binder, sheet_naming}
-use Rattle.rc_sheet_model.specs.Printing.{packed, keyword, named, Bound, card_form, coll_form, coll_forms, int_form, test_form, test_forms, domain_form, attr_form}
-use Rattle.rc_sheet_model.specs.StandsExpressions.{StandsCard, StandsColl, StandColls, StandsInt, StandsTest, StandTests, StandsRange, StandsDomain}
-use Rattle.rc_sheet_model.specs.WellFormed.{is_atom, HasWords}
+use Rattle.rc_base.specs.Tree.{Tree, list, Trees, cons}
+use Rattle.rc_sheet_spec.specs.Sheet.{Sort, card_sort, group_sort, CardExpr, card_var, top_card, bottom_card, max_card, min_card, CollExpr, group_var, cards_in, filtered, union_of, known_in, CollExprs, no_coll, coll, IntExpr, literal, number, size_of, sum_of, worth_of, add, subtract, multiply, Test, eq_int, eq_card, eq_attr, eq_who, ne, less, less_eq, more, more_eq, has_value, and_of, or_of, not_of, all_of, any_of, Tests, no_test, test, Domain, each_player, each_card, each_group, Sheet}
+use Rattle.rc_sheet_spec.specs.Rows.{◌▸◌, End, Row, Atom}
+use Rattle.rc_sheet_spec.specs.Naming.{Naming, Scope, bind, sort_of, Named, Binder, sheet_naming}
+use Rattle.rc_sheet_spec.specs.Printing.{packed, keyword, named, Bound, card_form, coll_form, coll_forms, int_form, test_form, test_forms, domain_form, attr_form}
+use Rattle.rc_sheet_spec.specs.StandsExpressions.{StandsCard, StandsColl, StandColls, StandsInt, StandsTest, StandTests, StandsRange, StandsDomain}
+use Rattle.rc_sheet_spec.specs.WellFormed.{is_atom, HasWords}
 use Rattle.rc_print.specs.Unplaced.{card_unplaced, coll_unplaced, colls_unplaced, int_unplaced, test_unplaced, tests_unplaced, domain_unplaced}
 use Rattle.rc_print.proofs.Copied.{Copies, AreCopied, keyword_copied, row_copied, bound_copied, part_copied, end_copied, least_copied}
 use Rattle.rc_print.proofs.CopiedNames.{one_copied, two_copied, named_copied, literal_copied, Fits, in_scope_copied, owners_copied, binder_copied, bind_fits, with_map_copied, loc_copied, num_copied}

@@ -1,13 +1,13 @@
 -- Effects, alternatives and items, printed in the place of their forms.
 use Rattle.std.proofs.Common.{List, [], ◌∷◌, ◌++◌, map, refl}
-use Rattle.rc_model.specs.Tree.{Tree, Trees}
-use Rattle.rc_sheet_model.specs.Sheet.{End as Place, top, bottom, Loc, Effect, move, move_all, remember, forget, shuffle, set_to, increase, decrease, when, repeat, for_each, next_is, turn_round, peek, Effects, no_effect, effect, Alt, do_alt, if_alt, any_alt, Class, game_class, player_class, team_class, SheetItem, do_item, stage, choice, SheetItems, no_item, item, Sheet}
-use Rattle.rc_sheet_model.specs.Rows.{◌▸◌, End, Some}
-use Rattle.rc_sheet_model.specs.Naming.{Naming, Scope, bind, sort_of, sheet_naming}
-use Rattle.rc_sheet_model.specs.Printing.{packed, Bound, spot_form, effect_form, effect_forms, alt_form, class_form, item_form, item_forms}
-use Rattle.rc_sheet_model.specs.StandsEffects.{StandsSpot, StandsEffect, StandEffects}
-use Rattle.rc_sheet_model.specs.StandsItems.{StandsAlt, StandAlts, StandsClass, StandsItem, StandItems}
-use Rattle.rc_sheet_model.specs.WellFormed.{HasWords}
+use Rattle.rc_base.specs.Tree.{Tree, Trees}
+use Rattle.rc_sheet_spec.specs.Sheet.{End as Place, top, bottom, Loc, Effect, move, move_all, remember, forget, shuffle, set_to, increase, decrease, when, repeat, for_each, next_is, turn_round, peek, Effects, no_effect, effect, Alt, do_alt, if_alt, any_alt, Class, game_class, player_class, team_class, SheetItem, do_item, stage, choice, SheetItems, no_item, item, Sheet}
+use Rattle.rc_sheet_spec.specs.Rows.{◌▸◌, End, Some}
+use Rattle.rc_sheet_spec.specs.Naming.{Naming, Scope, bind, sort_of, sheet_naming}
+use Rattle.rc_sheet_spec.specs.Printing.{packed, Bound, spot_form, effect_form, effect_forms, alt_form, class_form, item_form, item_forms}
+use Rattle.rc_sheet_spec.specs.StandsEffects.{StandsSpot, StandsEffect, StandEffects}
+use Rattle.rc_sheet_spec.specs.StandsItems.{StandsAlt, StandAlts, StandsClass, StandsItem, StandItems}
+use Rattle.rc_sheet_spec.specs.WellFormed.{HasWords}
 use Rattle.rc_print.specs.Unplaced.{loc_unplaced, effect_unplaced, effects_unplaced, alt_unplaced, item_unplaced, items_unplaced}
 use Rattle.rc_print.proofs.Copied.{Copies, AreCopied, keyword_copied, row_copied, part_copied, end_copied, least_copied}
 use Rattle.rc_print.proofs.CopiedNames.{one_copied, two_copied, Fits, none_fit, owner_copied, bind_fits, loc_copied, num_copied}

@@ -7,14 +7,14 @@ use Rattle.std.proofs.lemmas.List.{map-append}
 use Rattle.std.proofs.lemmas.List.Folds.{list_all-append}
 use Rattle.std.proofs.lemmas.List.Sums.{AllPass-from_list_all}
 use Rattle.std.proofs.lemmas.Option.{same_Some, get_or_from_slice_get, slice_get_within, slice_get-map}
-use Rattle.rc_model.specs.Tree.{Tree, word, list}
-use Rattle.rc_sheet_model.specs.Sheet.{Sort, LocKind, vloc, iloc, hloc, mem, LocName, Who, game, current_player, current_team, team_of_current, team_of_var, who_var, Loc, Num, Sheet, player_sort}
-use Rattle.rc_sheet_model.specs.Rows.{◌▸◌, End, Row, Atom}
-use Rattle.rc_model.specs.Words.{is_variable}
-use Rattle.rc_sheet_model.specs.Naming.{Naming, Scope, bind, self_scope, kind_word, Named, Binder, InScope, Literal, KindOf, sheet_naming}
-use Rattle.rc_sheet_model.specs.Printing.{keyword, row, named, number_form, Bound, binding, who_form, kind_bytes, kind_form, loc_form, num_form, one, two, with_map}
-use Rattle.rc_sheet_model.specs.StandsExpressions.{StandsOwner, StandsHolder, StandsLoc, StandsNum, Two, TwoOwners}
-use Rattle.rc_sheet_model.specs.WellFormed.{is_atom, is_plain_word, is_variable_word, HasWords}
+use Rattle.rc_base.specs.Tree.{Tree, word, list}
+use Rattle.rc_sheet_spec.specs.Sheet.{Sort, LocKind, vloc, iloc, hloc, mem, LocName, Who, game, current_player, current_team, team_of_current, team_of_var, who_var, Loc, Num, Sheet, player_sort}
+use Rattle.rc_sheet_spec.specs.Rows.{◌▸◌, End, Row, Atom}
+use Rattle.rc_base.specs.Words.{is_variable}
+use Rattle.rc_sheet_spec.specs.Naming.{Naming, Scope, bind, self_scope, kind_word, Named, Binder, InScope, Literal, KindOf, sheet_naming}
+use Rattle.rc_sheet_spec.specs.Printing.{keyword, row, named, number_form, Bound, binding, who_form, kind_bytes, kind_form, loc_form, num_form, one, two, with_map}
+use Rattle.rc_sheet_spec.specs.StandsExpressions.{StandsOwner, StandsHolder, StandsLoc, StandsNum, Two, TwoOwners}
+use Rattle.rc_sheet_spec.specs.WellFormed.{is_atom, is_plain_word, is_variable_word, HasWords}
 use Rattle.rc_print.specs.Respelled.{IsWordRespelled}
 use Rattle.rc_print.specs.Unplaced.{loc_unplaced}
 use Rattle.rc_print.proofs.PrintedNumbers.{printed_literal}

@@ -4,14 +4,14 @@ use Rattle.std.proofs.Common.{◌≡◌, ℕ, ◌-◌, Bool, true, false, ◌||�
 use Rattle.std.specs.Prelude.{Some as Present}
 use Rattle.std.specs.List.{AllZip}
 use Rattle.std.proofs.lemmas.Bool.{and_from}
-use Rattle.rc_model.specs.Tree.{Tree, word, list, Trees, nil, cons, IsOpenAtMost, AreOpenAtMost}
-use Rattle.rc_model.specs.Deck.{Groups, no_group, group, Branches, no_branch, branch, Entry}
-use Rattle.rc_sheet_model.specs.Sheet.{Teams, DeckLine, Sheet}
-use Rattle.rc_sheet_model.specs.Rows.{◌▸◌, End, Some, Row, Atom}
-use Rattle.rc_sheet_model.specs.Naming.{Naming, Named, KindOf, sheet_naming}
-use Rattle.rc_sheet_model.specs.Printing.{packed, keyword, row, named, number_form, group_forms, branch_forms, players_form, team_form, teams_forms, deck_form, entry_form, map_form, setup_forms}
-use Rattle.rc_sheet_model.specs.StandsSetup.{StandsPlayers, StandsTeam, StandTeams, StandsTeams, StandsGroups, StandsBranches, StandsDeck, StandValues, StandEntries, StandsMap, begins_with, lines_with, are_lines, team_lines, numbered, StandsSetup}
-use Rattle.rc_sheet_model.specs.WellFormed.{HasWords}
+use Rattle.rc_base.specs.Tree.{Tree, word, list, Trees, nil, cons, IsOpenAtMost, AreOpenAtMost}
+use Rattle.rc_base.specs.Deck.{Groups, no_group, group, Branches, no_branch, branch, Entry}
+use Rattle.rc_sheet_spec.specs.Sheet.{Teams, DeckLine, Sheet}
+use Rattle.rc_sheet_spec.specs.Rows.{◌▸◌, End, Some, Row, Atom}
+use Rattle.rc_sheet_spec.specs.Naming.{Naming, Named, KindOf, sheet_naming}
+use Rattle.rc_sheet_spec.specs.Printing.{packed, keyword, row, named, number_form, group_forms, branch_forms, players_form, team_form, teams_forms, deck_form, entry_form, map_form, setup_forms}
+use Rattle.rc_sheet_spec.specs.StandsSetup.{StandsPlayers, StandsTeam, StandTeams, StandsTeams, StandsGroups, StandsBranches, StandsDeck, StandValues, StandEntries, StandsMap, begins_with, lines_with, are_lines, team_lines, numbered, StandsSetup}
+use Rattle.rc_sheet_spec.specs.WellFormed.{HasWords}
 use Rattle.rc_print.specs.Respelled.{IsRespelled, AreRespelled, lines_in_order, setup_in_order}
 use Rattle.rc_print.specs.Unplaced.{IsBare, AreBare, unplaced}
 use Rattle.rc_print.proofs.Copied.{Good, Copies, AreCopied, keyword_copied, row_copied, part_copied, end_copied, least_copied}

@@ -1,10 +1,10 @@
 -- The form that is printed for a sheet stands for it, but for offsets, where another form does.
 use Rattle.std.proofs.Common.{ℕ, ◌-◌, [], ◌∷◌, refl}
-use Rattle.rc_model.specs.Tree.{Tree, word, list, nil, cons, IsOpenAtMost}
-use Rattle.rc_sheet_model.specs.Sheet.{Best, highest, lowest, Sheet}
-use Rattle.rc_sheet_model.specs.Stands.{StandsBest, StandsScoring, Stands}
-use Rattle.rc_sheet_model.specs.Printing.{best_form, scoring_form, sheet_form}
-use Rattle.rc_sheet_model.specs.WellFormed.{HasWords}
+use Rattle.rc_base.specs.Tree.{Tree, word, list, nil, cons, IsOpenAtMost}
+use Rattle.rc_sheet_spec.specs.Sheet.{Best, highest, lowest, Sheet}
+use Rattle.rc_sheet_spec.specs.Stands.{StandsBest, StandsScoring, Stands}
+use Rattle.rc_sheet_spec.specs.Printing.{best_form, scoring_form, sheet_form}
+use Rattle.rc_sheet_spec.specs.WellFormed.{HasWords}
 use Rattle.rc_print.specs.Respelled.{IsRespelled, in_order}
 use Rattle.rc_print.specs.Unplaced.{unplaced, IsBare}
 use Rattle.rc_print.proofs.Copied.{Copies, keyword_copied, part_copied, end_copied, least_copied}

@@ -1,9 +1,9 @@
 -- The form of a value that holds a vector of others, from the vector's items, and how a row of parts is printed.
 use Rattle.std.proofs.Common.{◌≡◌, ℕ, List, [], ◌∷◌, ◌++◌, Vec, Global, refl, sym, ap, ◌∙◌, append_assoc}
-use Rattle.rc_model.specs.Tree.{Tree, printed, printed_behind}
-use Rattle.rc_sheet_model.specs.Naming.{Naming}
-use Rattle.rc_sheet_model.specs.Printing.{Bound, binding, packed, keyword, row, named, one, coll_form, coll_forms, int_form, test_form, test_forms, domain_form, effect_form, effect_forms, class_form, item_form, item_forms}
-use Rattle.rc_sheet_model.specs.Sheet.{Class}
+use Rattle.rc_base.specs.Tree.{Tree, printed, printed_behind}
+use Rattle.rc_sheet_spec.specs.Naming.{Naming}
+use Rattle.rc_sheet_spec.specs.Printing.{Bound, binding, packed, keyword, row, named, one, coll_form, coll_forms, int_form, test_form, test_forms, domain_form, effect_form, effect_forms, class_form, item_form, item_forms}
+use Rattle.rc_sheet_spec.specs.Sheet.{Class}
 use Rattle.rc_ast.specs.declared.expressions.CollExpr.{CollExpr, Union}
 use Rattle.rc_ast.specs.declared.expressions.IntExpr.{IntExpr}
 use Rattle.rc_ast.specs.declared.expressions.Test.{Test, And, Or}

@@ -1,10 +1,10 @@
 -- The forms of point maps that are numbered on from a number.
 use Rattle.std.proofs.Common.{◌≡◌, ℕ, ◌+◌, List, [], ◌∷◌, length, map, refl, ap}
 use Rattle.std.specs.List.{zip, range_with_len}
-use Rattle.rc_model.specs.Tree.{Tree}
-use Rattle.rc_model.specs.Deck.{Entry}
-use Rattle.rc_sheet_model.specs.Naming.{Naming}
-use Rattle.rc_sheet_model.specs.Printing.{map_form}
+use Rattle.rc_base.specs.Tree.{Tree}
+use Rattle.rc_base.specs.Deck.{Entry}
+use Rattle.rc_sheet_spec.specs.Naming.{Naming}
+use Rattle.rc_sheet_spec.specs.Printing.{map_form}
 
 abbrev pub maps_from : Naming → ℕ → List (List Entry) → List Tree
 maps_from naming n [] = []

@@ -7,9 +7,9 @@ use Rattle.std.proofs.lemmas.Bool.{and_parts, and_from, or_from, cond-true}
 use Rattle.std.proofs.lemmas.Fmt.{digits_decimal, digits_value-decimal, length-decimal-le, decimal_nonempty}
 use Rattle.std.proofs.lemmas.Int.Digits.{digits_value-lt}
 use Rattle.std.proofs.lemmas.Str.Parse.{IsDigitsTest, FoldsDigits, IsNumeralModel, numerals_by_fold}
-use Rattle.rc_model.specs.Token.{is_part}
-use Rattle.rc_model.specs.Literal.{is_digit, value_of, natural, integer}
-use Rattle.rc_sheet_model.specs.WellFormed.{is_atom}
+use Rattle.rc_base.specs.Token.{is_part}
+use Rattle.rc_base.specs.Literal.{is_digit, value_of, natural, integer}
+use Rattle.rc_sheet_spec.specs.WellFormed.{is_atom}
 
 abbrev AreDigits : List ℕ → Type 0
 AreDigits bytes = list_all is_digit bytes ≡ true

@@ -1,8 +1,8 @@
 -- A row that is printed in several steps: a space, a head behind a parenthesis that opens, parts, and a parenthesis that closes.
 use Rattle.std.proofs.Common.{◌≡◌, ℕ, List, [], ◌∷◌, ◌++◌, Result, OnOk, refl, sym, ap, ◌∙◌, append_assoc, append-nil}
-use Rattle.rc_model.specs.Tree.{Tree, printed, printed_behind}
+use Rattle.rc_base.specs.Tree.{Tree, printed, printed_behind}
 use Rattle.rc_deck.proofs.EachLemmas.{on_ok}
-use Rattle.rc_sheet_model.specs.Printing.{packed, atom, row}
+use Rattle.rc_sheet_spec.specs.Printing.{packed, atom, row}
 use Rattle.rc_print.proofs.FormLemmas.{printed_behind-append}
 
 -- the head and these parts are printed

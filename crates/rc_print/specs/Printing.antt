@@ -1,6 +1,6 @@
 -- What a printer knows of the numbers in a part of a sheet.
 use Rattle.std.specs.Prelude.{ℕ, List, [], map, codes, slice_index_or}
-use Rattle.rc_sheet_model.specs.Naming.{Naming, sheet_naming}
+use Rattle.rc_sheet_spec.specs.Naming.{Naming, sheet_naming}
 use Rattle.rc_ast.specs.declared.sheet.Sheet.{Sheet}
 use Rattle.rc_print.specs.declared.words.Variable.{Variable}
 use Rattle.rc_print.specs.declared.words.Variable.TheVariants.{Own, Named}

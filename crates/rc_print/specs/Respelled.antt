@@ -2,10 +2,10 @@
 -- numbers are spelled in decimal digits. Offsets don't matter.
 use Rattle.std.specs.Prelude.{◌≡◌, ◌⊎◌, ℕ, List, ◌++◌, ℤ, Some}
 use Rattle.std.specs.Fmt.{signed_decimal}
-use Rattle.rc_model.specs.Literal.{integer}
-use Rattle.rc_model.specs.Tree.{Tree, word, list, Trees, nil, cons}
-use Rattle.rc_sheet_model.specs.Printing.{packed}
-use Rattle.rc_sheet_model.specs.StandsSetup.{lines_with}
+use Rattle.rc_base.specs.Literal.{integer}
+use Rattle.rc_base.specs.Tree.{Tree, word, list, Trees, nil, cons}
+use Rattle.rc_sheet_spec.specs.Printing.{packed}
+use Rattle.rc_sheet_spec.specs.StandsSetup.{lines_with}
 
 -- the same word, or the digits of the number that a literal spells
 abbrev pub IsWordRespelled : List ℕ → List ℕ → Type 0

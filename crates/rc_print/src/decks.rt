@@ -1,9 +1,9 @@
 //! Prints deck trees and entries of point maps.
 ghost use Rattle.std.specs.Prelude.{◌≡◌, ◌++◌, map, OnOk};
-ghost use Rattle.rc_model.specs.Tree.{printed, printed_parts, printed_behind};
+ghost use Rattle.rc_base.specs.Tree.{printed, printed_parts, printed_behind};
 ghost use Rattle.rc_deck.specs.Tree.{attr_of, value_of, branches_of, inner_of, groups_in, branches_in};
 ghost use Rattle.rc_deck.specs.Points.{entry_of};
-ghost use Rattle.rc_sheet_model.specs.Printing.{packed, named, group_form, branch_form, group_forms, branch_forms, entry_form};
+ghost use Rattle.rc_sheet_spec.specs.Printing.{packed, named, group_form, branch_form, group_forms, branch_forms, entry_form};
 ghost use Rattle.rc_print.specs.Printing.{naming_seen};
 
 use crate::printer::Printer;

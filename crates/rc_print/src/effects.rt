@@ -1,7 +1,7 @@
 //! Prints effects, each with a space before it.
 ghost use Rattle.std.specs.Prelude.{◌≡◌, ◌∷◌, ◌++◌, [], OnOk};
-ghost use Rattle.rc_model.specs.Tree.{printed, printed_behind};
-ghost use Rattle.rc_sheet_model.specs.Printing.{packed, atom, keyword, row, named, binding, who_form, card_form, coll_form, loc_form, num_form, int_form, test_form, domain_form, spot_form, effect_form, effect_forms};
+ghost use Rattle.rc_base.specs.Tree.{printed, printed_behind};
+ghost use Rattle.rc_sheet_spec.specs.Printing.{packed, atom, keyword, row, named, binding, who_form, card_form, coll_form, loc_form, num_form, int_form, test_form, domain_form, spot_form, effect_form, effect_forms};
 ghost use Rattle.rc_ast.specs.Names.{who_seen, loc_seen, num_seen};
 ghost use Rattle.rc_ast.specs.Expressions.{card_seen, coll_seen, int_seen, test_seen, domain_seen};
 ghost use Rattle.rc_ast.specs.Effects.{end_seen, effect_seen, effects_seen};

@@ -1,7 +1,7 @@
 //! Prints expressions and tests, each with a space before it.
 ghost use Rattle.std.specs.Prelude.{◌≡◌, ◌∷◌, ◌++◌, [], codes, OnOk};
-ghost use Rattle.rc_model.specs.Tree.{printed, printed_behind};
-ghost use Rattle.rc_sheet_model.specs.Printing.{packed, atom, keyword, row, named, number_form, binding, who_form, attr_form, card_form, loc_form, coll_form, coll_forms, int_form, test_form, test_forms, sides, domain_form};
+ghost use Rattle.rc_base.specs.Tree.{printed, printed_behind};
+ghost use Rattle.rc_sheet_spec.specs.Printing.{packed, atom, keyword, row, named, number_form, binding, who_form, attr_form, card_form, loc_form, coll_form, coll_forms, int_form, test_form, test_forms, sides, domain_form};
 ghost use Rattle.rc_ast.specs.Names.{who_seen, loc_seen};
 ghost use Rattle.rc_ast.specs.Expressions.{card_seen, coll_seen, colls_seen, int_seen, test_seen, tests_seen, domain_seen};
 ghost use Rattle.rc_print.specs.Printing.{naming_seen, bound_seen};

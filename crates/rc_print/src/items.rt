@@ -1,7 +1,7 @@
 //! Prints alternatives and items, each with a space before it.
 ghost use Rattle.std.specs.Prelude.{◌≡◌, ◌∷◌, ◌++◌, [], map, OnOk};
-ghost use Rattle.rc_model.specs.Tree.{printed, printed_behind};
-ghost use Rattle.rc_sheet_model.specs.Printing.{packed, alt_form, class_form, item_form, item_forms};
+ghost use Rattle.rc_base.specs.Tree.{printed, printed_behind};
+ghost use Rattle.rc_sheet_spec.specs.Printing.{packed, alt_form, class_form, item_form, item_forms};
 ghost use Rattle.rc_ast.specs.Items.{alt_seen, alts_seen, item_seen, items_seen};
 ghost use Rattle.rc_print.specs.Printing.{naming_seen, bound_seen};
 

@@ -1,10 +1,10 @@
 //! What is printed stands for the sheet. The function does nothing: its contract is the law.
-ghost use Rattle.rc_model.specs.Tree.{Tree, IsOpenAtMost};
-ghost use Rattle.rc_sheet_model.specs.Sheet.{Sheet};
-ghost use Rattle.rc_model.specs.Limits.{most_open};
-ghost use Rattle.rc_sheet_model.specs.Stands.{Stands};
-ghost use Rattle.rc_sheet_model.specs.WellFormed.{IsWellFormed};
-ghost use Rattle.rc_sheet_model.specs.Printing.{sheet_form};
+ghost use Rattle.rc_base.specs.Tree.{Tree, IsOpenAtMost};
+ghost use Rattle.rc_sheet_spec.specs.Sheet.{Sheet};
+ghost use Rattle.rc_base.specs.Limits.{most_open};
+ghost use Rattle.rc_sheet_spec.specs.Stands.{Stands};
+ghost use Rattle.rc_sheet_spec.specs.WellFormed.{IsWellFormed};
+ghost use Rattle.rc_sheet_spec.specs.Printing.{sheet_form};
 ghost use Rattle.rc_print.specs.Respelled.{IsRespelled, in_order};
 ghost use Rattle.rc_print.specs.Unplaced.{unplaced, IsBare};
 

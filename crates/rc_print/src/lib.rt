@@ -1,6 +1,6 @@
 //! Sheets as they are printed.
 //!
-//! [`print_sheet`] gives the bytes of a sheet's printed form, which `rc_sheet_model` defines for its pure tree, and a
+//! [`print_sheet`] gives the bytes of a sheet's printed form, which `rc_sheet_spec` defines for its pure tree, and a
 //! law says that the form stands for the sheet.
 #![tactic(auto)]
 

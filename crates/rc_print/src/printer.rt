@@ -1,7 +1,7 @@
 //! Where what is printed goes.
 ghost use Rattle.std.specs.Prelude.{◌≡◌, ◌∷◌, ◌++◌, [], OnOk, IfOk, pos};
-ghost use Rattle.rc_model.specs.Tree.{printed};
-ghost use Rattle.rc_sheet_model.specs.Printing.{number_form};
+ghost use Rattle.rc_base.specs.Tree.{printed};
+ghost use Rattle.rc_sheet_spec.specs.Printing.{number_form};
 
 use std::alloc::{AllocError, Global};
 

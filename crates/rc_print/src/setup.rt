@@ -1,9 +1,9 @@
 //! Prints the lines of the setup.
 ghost use Rattle.std.specs.Prelude.{◌≡◌, ◌++◌, map, option_map, pos, OnOk};
-ghost use Rattle.rc_model.specs.Tree.{printed, printed_parts, printed_behind};
+ghost use Rattle.rc_base.specs.Tree.{printed, printed_parts, printed_behind};
 ghost use Rattle.rc_deck.specs.Points.{entries_of};
-ghost use Rattle.rc_sheet_model.specs.StandsSetup.{numbered};
-ghost use Rattle.rc_sheet_model.specs.Printing.{packed, players_form, team_form, teams_forms, deck_form, map_form, number_form};
+ghost use Rattle.rc_sheet_spec.specs.StandsSetup.{numbered};
+ghost use Rattle.rc_sheet_spec.specs.Printing.{packed, players_form, team_form, teams_forms, deck_form, map_form, number_form};
 ghost use Rattle.rc_ast.specs.Sheet.{teams_seen, deck_line_seen};
 ghost use Rattle.rc_print.specs.Printing.{naming_seen};
 

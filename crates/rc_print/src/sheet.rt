@@ -1,7 +1,7 @@
 //! Prints a whole sheet.
 ghost use Rattle.std.specs.Prelude.{◌≡◌, ◌++◌, IfOk, OnOk};
-ghost use Rattle.rc_model.specs.Tree.{printed, printed_behind};
-ghost use Rattle.rc_sheet_model.specs.Printing.{packed, setup_forms, scoring_form, best_form, printed_sheet};
+ghost use Rattle.rc_base.specs.Tree.{printed, printed_behind};
+ghost use Rattle.rc_sheet_spec.specs.Printing.{packed, setup_forms, scoring_form, best_form, printed_sheet};
 ghost use Rattle.rc_ast.specs.Sheet.{sheet_seen, best_seen};
 
 use crate::expressions::push_int;

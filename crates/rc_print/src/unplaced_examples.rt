@@ -1,11 +1,11 @@
 //! Sheets without offsets and bare forms, computed on cases that are known. No function here does anything: each has a
 //! contract that the check proves by computing.
 ghost use Rattle.std.specs.Prelude.{◌≡◌, ◌∷◌, [], codes, replicate};
-ghost use Rattle.rc_model.specs.Tree.{word, list, nil, cons};
-ghost use Rattle.rc_sheet_model.specs.Sheet.{top, game, who_var, card_var, top_card, max_card, cards_in, filtered, known_in, not_of, any_of, each_card, each_group, if_alt, any_alt, move, when, peek};
-ghost use Rattle.rc_sheet_model.specs.Lists.{effects_from};
-ghost use Rattle.rc_sheet_model.specs.PartExamples.{swapped, loc_at, truth};
-ghost use Rattle.rc_sheet_model.specs.ClauseExamples.{shuffled_item};
+ghost use Rattle.rc_base.specs.Tree.{word, list, nil, cons};
+ghost use Rattle.rc_sheet_spec.specs.Sheet.{top, game, who_var, card_var, top_card, max_card, cards_in, filtered, known_in, not_of, any_of, each_card, each_group, if_alt, any_alt, move, when, peek};
+ghost use Rattle.rc_sheet_spec.specs.Lists.{effects_from};
+ghost use Rattle.rc_sheet_spec.specs.PartExamples.{swapped, loc_at, truth};
+ghost use Rattle.rc_sheet_spec.specs.ClauseExamples.{shuffled_item};
 ghost use Rattle.rc_print.specs.Unplaced.{unplaced, card_unplaced, effect_unplaced, alt_unplaced, IsBare};
 
 /// Each location loses its offset, however deep it stands, and nothing else changes.

@@ -1,7 +1,7 @@
 //! Prints names, owners and locations.
 ghost use Rattle.std.specs.Prelude.{◌≡◌, ◌∷◌, ◌++◌, OnOk, IfOk};
-ghost use Rattle.rc_model.specs.Tree.{printed};
-ghost use Rattle.rc_sheet_model.specs.Printing.{named, binding, who_form, kind_form, loc_form, num_form};
+ghost use Rattle.rc_base.specs.Tree.{printed};
+ghost use Rattle.rc_sheet_spec.specs.Printing.{named, binding, who_form, kind_form, loc_form, num_form};
 ghost use Rattle.rc_ast.specs.Names.{who_seen, loc_seen, num_seen};
 ghost use Rattle.rc_print.specs.Printing.{naming_seen, bound_seen};
 

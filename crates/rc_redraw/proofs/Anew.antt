@@ -4,14 +4,14 @@ use Rattle.std.proofs.lemmas.List.Sorted.{IsPermutation-refl}
 use Rattle.std.proofs.Math.Seq.{take-append_seam, drop-append_seam}
 use Rattle.std.proofs.lemmas.Bool.{ltb-false}
 use Rattle.std.proofs.lemmas.List.{get_or_at, set_at, length-drop}
-use Rattle.rc_play_model.specs.Shape.{Shape}
-use Rattle.rc_play_model.specs.Table.{Table, IsSound}
-use Rattle.rc_play_model.specs.View.{Sight, with_faces, partly, View, view_of}
-use Rattle.rc_play_model.specs.Draws.{permuted}
-use Rattle.rc_play_model.specs.Redraw.{known_faces, unknown, mixed, mems_of, hidden_count, seen_faces, filled, seen_of, unused, marks_seen, redrawn, redraw}
-use Rattle.rc_play_model.specs.RedrawLaws.{IsViewOfSound}
-use Rattle.rc_play_model.proofs.Filled.{mixed-length}
-use Rattle.rc_play_model.proofs.Redrawn.{redrawn-sound}
+use Rattle.rc_play_spec.specs.Shape.{Shape}
+use Rattle.rc_play_spec.specs.Table.{Table, IsSound}
+use Rattle.rc_play_spec.specs.View.{Sight, with_faces, partly, View, view_of}
+use Rattle.rc_play_spec.specs.Draws.{permuted}
+use Rattle.rc_play_spec.specs.Redraw.{known_faces, unknown, mixed, mems_of, hidden_count, seen_faces, filled, seen_of, unused, marks_seen, redrawn, redraw}
+use Rattle.rc_play_spec.specs.RedrawLaws.{IsViewOfSound}
+use Rattle.rc_play_spec.proofs.Filled.{mixed-length}
+use Rattle.rc_play_spec.proofs.Redrawn.{redrawn-sound}
 use Rattle.rc_table.specs.Refilled.{CanRefill, lists_refilled, refilled}
 use Rattle.rc_redraw.specs.Hiding.{hiding_from, pattern_at, pattern_of, patterns, blended, blanks}
 use Rattle.rc_redraw.specs.Redraws.{Redrawn, Keeps}

@@ -5,8 +5,8 @@ use Rattle.std.proofs.lemmas.Bool.{cases_order}
 use Rattle.std.proofs.lemmas.Bool.Decides.{Decides-eqb}
 use Rattle.std.proofs.lemmas.List.{get_or-set_same, get_or-set_other, get_or_default}
 use Rattle.std.proofs.lemmas.List.Folds.{list_any-append}
-use Rattle.rc_play_model.specs.Shape.{Shape, face_number}
-use Rattle.rc_play_model.specs.Smallest.{IsSmallestUnused}
+use Rattle.rc_play_spec.specs.Shape.{Shape, face_number}
+use Rattle.rc_play_spec.specs.Smallest.{IsSmallestUnused}
 
 module _ (shape : Shape) (ids : List ℕ) (flags : List Bool) (f s id : ℕ) (few : length flags ≡ length shape.faces)
     (rule : (j : ℕ) → j < length shape.faces → get_or flags j false ≡ list_any (λ other. other == j) ids)

@@ -2,11 +2,11 @@
 use Rattle.std.proofs.Common.{◌≡◌, ℕ, zero, suc, ◌+◌, ◌<◌, nat_lt, if◌then◌else◌, Bool, false, List, [], ◌∷◌, ◌++◌, length, map, drop, get_or, slice_get, refl, sym, ap, ap₂, ◌∙◌, arith}
 use Rattle.std.proofs.lemmas.List.{drop_more, drop-drop, length-append, length-map}
 use Rattle.std.proofs.Math.ListN.{get_or-map}
-use Rattle.rc_sheet_model.specs.WellFormed.{is_mem}
-use Rattle.rc_play_model.specs.Shape.{Place, Shape, holds_references}
-use Rattle.rc_play_model.specs.View.{Sight as PureSight, View as PureView, sights_of}
-use Rattle.rc_play_model.specs.Redraw.{mems_of, faces_at, hidden_at, ids_at, seen_faces, hidden_count, filled, peeked_at, peeked}
-use Rattle.rc_play_model.specs.RedrawLaws.{IsViewOfSound}
+use Rattle.rc_sheet_spec.specs.WellFormed.{is_mem}
+use Rattle.rc_play_spec.specs.Shape.{Place, Shape, holds_references}
+use Rattle.rc_play_spec.specs.View.{Sight as PureSight, View as PureView, sights_of}
+use Rattle.rc_play_spec.specs.Redraw.{mems_of, faces_at, hidden_at, ids_at, seen_faces, hidden_count, filled, peeked_at, peeked}
+use Rattle.rc_play_spec.specs.RedrawLaws.{IsViewOfSound}
 use Rattle.rc_view.specs.Seen.{sight_seen}
 use Rattle.rc_redraw.specs.Hiding.{hiding_from, pattern_of, patterns}
 use Rattle.rc_view.specs.declared.sight.Sight.{Sight}

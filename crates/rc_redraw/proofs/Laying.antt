@@ -1,10 +1,10 @@
 -- Who is marked in a table that is laid for a view.
 use Rattle.std.proofs.Common.{ℕ, ◌<◌, List, length, ap, arith}
-use Rattle.rc_play_model.specs.Shape.{Shape}
-use Rattle.rc_play_model.specs.View.{View}
-use Rattle.rc_play_model.specs.Redraw.{mems_of, peeked}
-use Rattle.rc_play_model.specs.RedrawLaws.{IsViewOfSound}
-use Rattle.rc_play_model.proofs.MarksSeen.{some-peeked, marked-player}
+use Rattle.rc_play_spec.specs.Shape.{Shape}
+use Rattle.rc_play_spec.specs.View.{View}
+use Rattle.rc_play_spec.specs.Redraw.{mems_of, peeked}
+use Rattle.rc_play_spec.specs.RedrawLaws.{IsViewOfSound}
+use Rattle.rc_play_spec.proofs.MarksSeen.{some-peeked, marked-player}
 
 -- a view knows a card that it isn't shown only where its seat is a player
 pub knowing-player : (shape : Shape) (view : View) → IsViewOfSound shape view → (seen : List ℕ) →

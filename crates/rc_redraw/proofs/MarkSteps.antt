@@ -5,9 +5,9 @@ use Rattle.std.proofs.lemmas.Bool.Decides.{Decides-eqb}
 use Rattle.std.proofs.lemmas.Grind.{get_or-set_at}
 use Rattle.std.proofs.lemmas.List.{ext_get_or, get_or-replicate, get_or-set_other, length-map, length-replicate}
 use Rattle.std.proofs.Math.ListN.{get_or-map}
-use Rattle.rc_play_model.specs.View.{Sight, with_faces, partly}
-use Rattle.rc_play_model.specs.Redraw.{faces_at, peeked_at, marks_for}
-use Rattle.rc_play_model.proofs.MarksSeen.{marks-are, marks-long}
+use Rattle.rc_play_spec.specs.View.{Sight, with_faces, partly}
+use Rattle.rc_play_spec.specs.Redraw.{faces_at, peeked_at, marks_for}
+use Rattle.rc_play_spec.proofs.MarksSeen.{marks-are, marks-long}
 use Rattle.rc_table.specs.Marks.{seats_in}
 use Rattle.rc_redraw.specs.Marked.{marked_by}
 

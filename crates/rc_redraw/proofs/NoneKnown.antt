@@ -1,6 +1,6 @@
 -- A location of which no place is known.
 use Rattle.std.proofs.Common.{Option, Some, None, ◌≡◌, ℕ, suc, ◌≤◌, List, [], ◌∷◌, length, take, refl, ap, arith}
-use Rattle.rc_play_model.specs.Redraw.{known_faces, unknown, mixed}
+use Rattle.rc_play_spec.specs.Redraw.{known_faces, unknown, mixed}
 
 -- all of its places are unknown
 pub all_unknown : (os : List (Option ℕ)) → 0 ≡ length (known_faces os) → unknown os ≡ length os

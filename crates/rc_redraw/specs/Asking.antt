@@ -1,8 +1,8 @@
 -- Asks and keys as the definitions of play have them.
 use Rattle.std.specs.Prelude.{ℕ, ◌*◌}
-use Rattle.rc_play_model.specs.About.{About}
-use Rattle.rc_play_model.specs.Strategy.{menu_size}
-use Rattle.rc_play_model.specs.Tally.{Ask as PureAsk}
+use Rattle.rc_play_spec.specs.About.{About}
+use Rattle.rc_play_spec.specs.Strategy.{menu_size}
+use Rattle.rc_play_spec.specs.Tally.{Ask as PureAsk}
 use Rattle.rc_view.specs.Seen.{view_seen}
 use Rattle.rc_redraw.specs.declared.asking.Ask.{Ask}
 use Rattle.rc_redraw.specs.declared.asking.Key.{Key as StoredKey}

@@ -1,8 +1,8 @@
 -- What choosing asks of a memo, and how many playouts it takes.
 use Rattle.std.specs.Prelude.{◌≡◌, ℕ, ◌+◌, ◌≤◌, ◌⊎◌, true, false, List, [], ◌∷◌}
-use Rattle.rc_play_model.specs.About.{About}
-use Rattle.rc_play_model.specs.Plan.{Strategy, scripted, random, rollout}
-use Rattle.rc_play_model.specs.View.{View}
+use Rattle.rc_play_spec.specs.About.{About}
+use Rattle.rc_play_spec.specs.Plan.{Strategy, scripted, random, rollout}
+use Rattle.rc_play_spec.specs.View.{View}
 use Rattle.rc_redraw.specs.Asking.{Key, cost_of}
 use Rattle.rc_redraw.specs.Counts.{Counts, looked_up, kept_once}
 use Rattle.rc_redraw.specs.Need.{Need}

@@ -1,7 +1,7 @@
 -- What a memo was asked: how many looks were answered, how many of them hit, how many entries were kept, and, where it tells them,
 -- its calls in order.
 use Rattle.std.specs.Prelude.{◌≡◌, ℕ, ◌+◌, Bool, true, false, List, [], ◌∷◌, ◌++◌, Option, option_map, IfSome}
-use Rattle.rc_play_model.specs.About.{About}
+use Rattle.rc_play_spec.specs.About.{About}
 use Rattle.rc_redraw.specs.Asking.{Key}
 
 pub data Call : Type 0 where

@@ -1,6 +1,6 @@
 -- Entries: keys with their totals.
 use Rattle.std.specs.Prelude.{◌≡◌}
-use Rattle.rc_play_model.specs.Tally.{tally as tally_of}
+use Rattle.rc_play_spec.specs.Tally.{tally as tally_of}
 use Rattle.rc_redraw.specs.Asking.{Key, key_seen}
 use Rattle.rc_redraw.specs.declared.entry.Entry.TheInside.{Inside}
 

@@ -1,7 +1,7 @@
 -- Which locations hide cards, and what is known of their places.
 use Rattle.std.specs.Prelude.{ℕ, suc, ◌+◌, Bool, true, false, nat_lt, if◌then◌else◌, List, [], ◌∷◌, ◌++◌, length, drop, Option, Some, None}
-use Rattle.rc_play_model.specs.View.{Sight, with_faces, partly}
-use Rattle.rc_play_model.specs.Redraw.{hidden_at, faces_at, unknown}
+use Rattle.rc_play_spec.specs.View.{Sight, with_faces, partly}
+use Rattle.rc_play_spec.specs.Redraw.{hidden_at, faces_at, unknown}
 
 -- those with places that aren't known, of the locations from one on
 abbrev pub hiding_from : ℕ → List Bool → List Sight → List ℕ

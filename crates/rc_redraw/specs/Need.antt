@@ -1,12 +1,12 @@
 -- What a strategy is to choose by, as the definitions of play have it.
 use Rattle.std.specs.Prelude.{◌≡◌, ℕ, ◌<◌}
-use Rattle.rc_play_model.specs.About.{About}
-use Rattle.rc_play_model.specs.Fits.{FitsSite}
-use Rattle.rc_play_model.specs.Owners.{mover}
-use Rattle.rc_play_model.specs.Plan.{Strategy}
-use Rattle.rc_play_model.specs.RedrawLaws.{IsViewOfSound}
-use Rattle.rc_play_model.specs.Strategy.{menu_size}
-use Rattle.rc_play_model.specs.View.{View}
+use Rattle.rc_play_spec.specs.About.{About}
+use Rattle.rc_play_spec.specs.Fits.{FitsSite}
+use Rattle.rc_play_spec.specs.Owners.{mover}
+use Rattle.rc_play_spec.specs.Plan.{Strategy}
+use Rattle.rc_play_spec.specs.RedrawLaws.{IsViewOfSound}
+use Rattle.rc_play_spec.specs.Strategy.{menu_size}
+use Rattle.rc_play_spec.specs.View.{View}
 use Rattle.rc_rules.specs.Plan.{strategy_seen}
 use Rattle.rc_view.specs.Seen.{view_seen}
 use Rattle.rc_redraw.specs.declared.need.Need.{Need as StoredNeed}

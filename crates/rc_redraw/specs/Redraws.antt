@@ -1,11 +1,11 @@
 -- What is kept for tables that are redrawn for a view time and again.
 use Rattle.std.specs.Prelude.{◌≡◌, ℕ, ◌≤◌, List, length, Option}
-use Rattle.rc_model.specs.Limits.{most_cards}
-use Rattle.rc_play_model.specs.Shape.{Shape}
-use Rattle.rc_play_model.specs.Table.{Table}
-use Rattle.rc_play_model.specs.View.{View}
-use Rattle.rc_play_model.specs.Redraw.{mems_of, seen_of, unused as unused_ids, redrawn, redraw}
-use Rattle.rc_play_model.specs.RedrawLaws.{IsViewOfSound}
+use Rattle.rc_base.specs.Limits.{most_cards}
+use Rattle.rc_play_spec.specs.Shape.{Shape}
+use Rattle.rc_play_spec.specs.Table.{Table}
+use Rattle.rc_play_spec.specs.View.{View}
+use Rattle.rc_play_spec.specs.Redraw.{mems_of, seen_of, unused as unused_ids, redrawn, redraw}
+use Rattle.rc_play_spec.specs.RedrawLaws.{IsViewOfSound}
 use Rattle.rc_redraw.specs.Hiding.{hiding_from, patterns}
 
 -- a view of a table of a shape, and a table that looks like it

@@ -1,14 +1,14 @@
 //! What chooses for the seats.
 ghost use Rattle.std.specs.Prelude.{◌≡◌, ℕ, ◌≤◌, ◌+◌, IfOk, OnOk, OnErr};
-ghost use Rattle.rc_play_model.specs.About.{About as PureAbout};
-ghost use Rattle.rc_play_model.specs.Keyed.{choice_of};
+ghost use Rattle.rc_play_spec.specs.About.{About as PureAbout};
+ghost use Rattle.rc_play_spec.specs.Keyed.{choice_of};
 ghost use Rattle.rc_redraw.specs.Counts.{Counts};
 ghost use Rattle.rc_redraw.specs.Need.{need_seen, IsNeed};
 ghost use Rattle.rc_redraw.specs.Choosing.{Chooses, AsksSome, asked_for, most_steps};
 
 use crate::need::Need;
+use rc_base::Steps;
 use rc_deck::Memory;
-use rc_steps::Steps;
 use std::alloc::Global;
 use std::sync::ledger::Ledger;
 

@@ -1,6 +1,6 @@
 //! Keys with their totals.
 ghost use Rattle.std.specs.Prelude.{◌≡◌};
-ghost use Rattle.rc_play_model.specs.Tally.{tally as tally_of};
+ghost use Rattle.rc_play_spec.specs.Tally.{tally as tally_of};
 ghost use Rattle.rc_redraw.specs.Asking.{key_seen};
 
 use crate::asking::Key;

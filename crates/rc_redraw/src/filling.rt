@@ -1,6 +1,6 @@
 //! What each location of a redrawn table holds.
 ghost use Rattle.std.specs.Prelude.{◌≡◌, ◌≤◌, ◌++◌, length, map, IfOk, OnOk};
-ghost use Rattle.rc_play_model.specs.Redraw.{mems_of, faces_at, hidden_at, ids_at, seen_faces, hidden_count, filled as filled_by};
+ghost use Rattle.rc_play_spec.specs.Redraw.{mems_of, faces_at, hidden_at, ids_at, seen_faces, hidden_count, filled as filled_by};
 ghost use Rattle.rc_redraw.specs.Hiding.{hiding_from, pattern_of, patterns as patterns_of};
 ghost use Rattle.rc_view.specs.Seen.{sight_seen};
 

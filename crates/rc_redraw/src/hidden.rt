@@ -1,7 +1,7 @@
 //! The ids that unseen card places take.
 ghost use Rattle.std.specs.Prelude.{◌≡◌, ◌≤◌, length, IfOk};
-ghost use Rattle.rc_model.specs.Limits.{most_cards};
-ghost use Rattle.rc_play_model.specs.Redraw.{unused};
+ghost use Rattle.rc_base.specs.Limits.{most_cards};
+ghost use Rattle.rc_play_spec.specs.Redraw.{unused};
 ghost use Rattle.rc_redraw.specs.Taken.{Marks};
 
 use crate::seen::Taken;

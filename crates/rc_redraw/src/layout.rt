@@ -1,15 +1,15 @@
 //! What a view shows, laid out.
 ghost use Rattle.std.specs.Prelude.{◌≡◌, ◌≤◌, [], length, map, IfOk};
-ghost use Rattle.rc_model.specs.Limits.{most_cards};
-ghost use Rattle.rc_play_model.specs.Redraw.{mems_of, seen_faces, seen_ids, unused, hidden_count, filled as filled_by};
-ghost use Rattle.rc_play_model.specs.Smallest.{AreEnough};
+ghost use Rattle.rc_base.specs.Limits.{most_cards};
+ghost use Rattle.rc_play_spec.specs.Redraw.{mems_of, seen_faces, seen_ids, unused, hidden_count, filled as filled_by};
+ghost use Rattle.rc_play_spec.specs.Smallest.{AreEnough};
 ghost use Rattle.rc_view.specs.Seen.{sight_seen};
 
 use crate::filling::fill_lists;
 use crate::hidden::left_by;
 use crate::seen::{faces_seen, taken_for};
 use rc_deck::Memory;
-use rc_play_model::seen_places_take_the_smallest;
+use rc_play_spec::seen_places_take_the_smallest;
 use rc_table::Shape;
 use rc_view::Sight;
 use std::alloc::Global;

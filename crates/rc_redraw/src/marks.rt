@@ -1,6 +1,6 @@
 //! The marks of the cards that a view knows without seeing their locations.
 ghost use Rattle.std.specs.Prelude.{◌≡◌, ◌<◌, ◌≤◌, length, map, All, IfOk};
-ghost use Rattle.rc_play_model.specs.Redraw.{mems_of, faces_at, peeked, seen_faces, marks_for};
+ghost use Rattle.rc_play_spec.specs.Redraw.{mems_of, faces_at, peeked, seen_faces, marks_for};
 ghost use Rattle.rc_table.specs.Marks.{seats_in};
 ghost use Rattle.rc_redraw.specs.Marked.{marked_by};
 ghost use Rattle.rc_view.specs.Seen.{sight_seen};

@@ -1,7 +1,7 @@
 //! What remembers totals.
 ghost use Rattle.std.specs.Prelude.{◌≡◌, ℕ, Option, IfOk, OnOk, OnErr};
-ghost use Rattle.rc_play_model.specs.About.{About as PureAbout};
-ghost use Rattle.rc_play_model.specs.Tally.{tally as tally_of};
+ghost use Rattle.rc_play_spec.specs.About.{About as PureAbout};
+ghost use Rattle.rc_play_spec.specs.Tally.{tally as tally_of};
 ghost use Rattle.rc_redraw.specs.Asking.{key_seen};
 ghost use Rattle.rc_redraw.specs.Counts.{Counts, Serves, looked_up, kept_once};
 ghost use Rattle.rc_redraw.specs.Reply.{IfHit, is_hit};

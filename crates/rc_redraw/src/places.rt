@@ -1,6 +1,6 @@
 //! Places of a location that a view knows, and the others.
 ghost use Rattle.std.specs.Prelude.{◌≡◌, ◌≤◌, ◌++◌, length, OnOk, IfOk};
-ghost use Rattle.rc_play_model.specs.Redraw.{known_faces, unknown, mixed};
+ghost use Rattle.rc_play_spec.specs.Redraw.{known_faces, unknown, mixed};
 ghost use Rattle.rc_redraw.specs.Hiding.{pattern_at, blended, blanks};
 
 use rc_deck::Memory;

@@ -1,11 +1,11 @@
 //! The tables that a view and keys give.
 ghost use Rattle.std.specs.Prelude.{◌≡◌, ◌≤◌, length, IfOk};
-ghost use Rattle.rc_model.specs.Limits.{most_cards};
-ghost use Rattle.rc_play_model.specs.Draws.{permuted};
-ghost use Rattle.rc_play_model.specs.Redraw.{redraw as redraw_of};
-ghost use Rattle.rc_play_model.specs.RedrawLaws.{IsViewOfSound};
-ghost use Rattle.rc_play_model.specs.Table.{IsSound};
-ghost use Rattle.rc_play_model.specs.View.{view_of};
+ghost use Rattle.rc_base.specs.Limits.{most_cards};
+ghost use Rattle.rc_play_spec.specs.Draws.{permuted};
+ghost use Rattle.rc_play_spec.specs.Redraw.{redraw as redraw_of};
+ghost use Rattle.rc_play_spec.specs.RedrawLaws.{IsViewOfSound};
+ghost use Rattle.rc_play_spec.specs.Table.{IsSound};
+ghost use Rattle.rc_play_spec.specs.View.{view_of};
 ghost use Rattle.rc_redraw.specs.Redraws.{redealt};
 ghost use Rattle.rc_view.specs.Seen.{view_seen};
 
@@ -15,7 +15,7 @@ use crate::marks::marks_known;
 use crate::places::blend;
 use rc_deck::Memory;
 use rc_draw::shuffle_by;
-use rc_play_model::{
+use rc_play_spec::{
     redrawn_tables_are_sound, redrawn_tables_keep_the_view, seen_places_take_the_smallest,
 };
 use rc_table::{Shape, Table};

@@ -1,13 +1,13 @@
 //! The ids that known places take.
 ghost use Rattle.std.specs.Prelude.{◌≡◌, ◌++◌, [], length, map, IfOk, OnOk};
-ghost use Rattle.rc_play_model.specs.Redraw.{mems_of, faces_at, seen_faces, seen_ids};
-ghost use Rattle.rc_play_model.specs.Smallest.{AreEnough};
+ghost use Rattle.rc_play_spec.specs.Redraw.{mems_of, faces_at, seen_faces, seen_ids};
+ghost use Rattle.rc_play_spec.specs.Smallest.{AreEnough};
 ghost use Rattle.rc_redraw.specs.Taken.{Marks};
 ghost use Rattle.rc_view.specs.Seen.{sight_seen};
 
 use crate::places::{count_known, push_known};
 use rc_deck::Memory;
-use rc_play_model::seen_places_take_the_smallest;
+use rc_play_spec::seen_places_take_the_smallest;
 use rc_table::{Shape, face_number};
 use rc_view::Sight;
 use std::alloc::Global;

@@ -3,17 +3,17 @@ use Rattle.std.proofs.Common.{◌≡◌, ℕ, ◌+◌, List, [], ◌∷◌, ◌+
 use Rattle.std.specs.Prelude.{filter_map}
 use Rattle.std.proofs.lemmas.List.{length-map, map-append}
 use Rattle.std.proofs.lemmas.List.Elements.{filter_map-append}
-use Rattle.rc_model.specs.Numbers.{below}
-use Rattle.rc_model.specs.Transcript.{Record}
+use Rattle.rc_base.specs.Numbers.{below}
+use Rattle.rc_base.specs.Transcript.{Record}
 use Rattle.rc_deck.proofs.RangeLemmas.{below_push}
-use Rattle.rc_play_model.specs.About.{About}
-use Rattle.rc_play_model.specs.Plan.{Plan}
+use Rattle.rc_play_spec.specs.About.{About}
+use Rattle.rc_play_spec.specs.Plan.{Plan}
 use Rattle.rc_rules.specs.declared.plan.Plan.{Plan as StoredPlan}
 use Rattle.rc_rules.specs.declared.record.MatchRecord.{MatchRecord}
 use Rattle.rc_rules.specs.Plan.{deal_seen, plan_seen}
 use Rattle.rc_rules.specs.Record.{record_seen}
-use Rattle.rc_search_model.specs.Search.{Rival}
-use Rattle.rc_search_model.specs.Rivals.{rival_match, rival_records}
+use Rattle.rc_play_spec.specs.Search.{Rival}
+use Rattle.rc_play_spec.specs.Rivals.{rival_match, rival_records}
 
 module _ (about : About) (rival : Rival) (plan : Plan) where
   -- the records of the first matches

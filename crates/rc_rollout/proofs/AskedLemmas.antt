@@ -1,8 +1,8 @@
 -- What a rollout asks, and what that costs.
 use Rattle.std.proofs.Common.{◌≡◌, ℕ, ◌*◌, [], ◌∷◌, Result, Ok, Err, OnOk, refl, sym, ap, ◌∙◌}
-use Rattle.rc_play_model.specs.About.{About}
-use Rattle.rc_play_model.specs.Strategy.{menu_size}
-use Rattle.rc_play_model.specs.Tally.{tally}
+use Rattle.rc_play_spec.specs.About.{About}
+use Rattle.rc_play_spec.specs.Strategy.{menu_size}
+use Rattle.rc_play_spec.specs.Tally.{tally}
 use Rattle.rc_rules.specs.declared.plan.Strategy.TheVariants.{Rollout}
 use Rattle.rc_rules.specs.Plan.{strategy_seen}
 use Rattle.rc_redraw.specs.declared.asking.Ask.{Ask}

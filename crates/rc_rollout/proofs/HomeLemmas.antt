@@ -1,8 +1,8 @@
 -- Machines that are at home at a decision.
 use Rattle.std.proofs.Common.{◌≡◌, ℕ, length, sym, ap, subst, ◌∙◌}
-use Rattle.rc_play_model.specs.About.{About}
-use Rattle.rc_play_model.specs.Step.{Config}
-use Rattle.rc_play_model.specs.Tally.{Ask}
+use Rattle.rc_play_spec.specs.About.{About}
+use Rattle.rc_play_spec.specs.Step.{Config}
+use Rattle.rc_play_spec.specs.Tally.{Ask}
 use Rattle.rc_rules.specs.Machine.{StopsAtDecision, menu_here}
 use Rattle.rc_flat.specs.Home.{Homing}
 use Rattle.rc_rollout.specs.Back.{IsHomeAtRound, IsHomeOf, IsAtRound}

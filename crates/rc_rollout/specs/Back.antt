@@ -1,8 +1,8 @@
 -- Machines that play out from one decision again and again.
 use Rattle.std.specs.Prelude.{◌≡◌, ℕ, false, length}
-use Rattle.rc_play_model.specs.About.{About}
-use Rattle.rc_play_model.specs.Strategy.{menu_size}
-use Rattle.rc_play_model.specs.Tally.{Ask, redrawn_at}
+use Rattle.rc_play_spec.specs.About.{About}
+use Rattle.rc_play_spec.specs.Strategy.{menu_size}
+use Rattle.rc_play_spec.specs.Tally.{Ask, redrawn_at}
 use Rattle.rc_rules.specs.Machine.{StopsAtDecision, menu_here}
 use Rattle.rc_flat.specs.Home.{Homing}
 

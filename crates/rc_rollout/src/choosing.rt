@@ -1,9 +1,9 @@
 //! What strategies choose.
 ghost use Rattle.std.specs.Prelude.{◌≡◌, ◌==◌, ◌≤◌, ◌<◌, ◌+◌, max, fold, length, IfOk, OnOk, OnErr};
 ghost use Rattle.std.specs.List.{position_or_len};
-ghost use Rattle.rc_play_model.specs.Keyed.{choice_of};
-ghost use Rattle.rc_play_model.specs.Strategy as strategy;
-ghost use Rattle.rc_play_model.specs.Tally.{tally as tally_of};
+ghost use Rattle.rc_play_spec.specs.Keyed.{choice_of};
+ghost use Rattle.rc_play_spec.specs.Strategy as strategy;
+ghost use Rattle.rc_play_spec.specs.Tally.{tally as tally_of};
 ghost use Rattle.rc_code.specs.Seen.{code_seen};
 ghost use Rattle.rc_code.specs.Stands.{StandsFor};
 ghost use Rattle.rc_redraw.specs.Asking.{cost_of, key_seen};
@@ -13,12 +13,12 @@ ghost use Rattle.rc_redraw.specs.Need.{need_seen, IsAtDecision, IsNeed};
 ghost use Rattle.rc_rollout.specs.Alone.{IsOffhand, keys_of};
 
 use crate::totals::tally;
+use rc_base::Steps;
 use rc_code::Code;
 use rc_deck::Memory;
-use rc_play_model::tallies_are_bounded;
+use rc_play_spec::tallies_are_bounded;
 use rc_redraw::{Ask, Key, Memo, Need, Reply};
 use rc_rules::{Strategy, keyed_pick, made_by, scripted_item};
-use rc_steps::Steps;
 use std::alloc::Global;
 use std::sync::Arc;
 use std::sync::ledger::Ledger;

@@ -1,8 +1,8 @@
 -- The classes of a sheet's stages: how many there are, and the first of them.
 use Rattle.std.proofs.Common.{◌≡◌, ℕ, zero, suc, ◌+◌, ◌≤◌, List, [], ◌∷◌, ◌++◌, length, take, slice_get, Some, None, refl, sym, ap, ◌∙◌, arith, length-append}
-use Rattle.rc_sheet_model.specs.Sheet.{Class, SheetItem, do_item, stage, choice, SheetItems, no_item, item}
-use Rattle.rc_sheet_model.specs.Mentions.{stages_in_item, stages_in}
-use Rattle.rc_play_model.specs.Owners.{classes_in_item, classes_in}
+use Rattle.rc_sheet_spec.specs.Sheet.{Class, SheetItem, do_item, stage, choice, SheetItems, no_item, item}
+use Rattle.rc_sheet_spec.specs.Mentions.{stages_in_item, stages_in}
+use Rattle.rc_play_spec.specs.Owners.{classes_in_item, classes_in}
 
 mutual
   item_count : (i : SheetItem) → length (classes_in_item i) ≡ length (stages_in_item i)

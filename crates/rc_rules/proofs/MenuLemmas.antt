@@ -1,8 +1,8 @@
 -- The menu where a control has its site.
 use Rattle.std.proofs.Common.{◌≡◌, ℕ, Some, ap}
 use Rattle.std.specs.Prelude.{unwrap_or}
-use Rattle.rc_play_model.specs.About.{About, menu_at}
-use Rattle.rc_play_model.specs.Step.{Config}
+use Rattle.rc_play_spec.specs.About.{About, menu_at}
+use Rattle.rc_play_spec.specs.Step.{Config}
 use Rattle.rc_rules.specs.Machine.{menu_here}
 
 -- the menu where the control has its site

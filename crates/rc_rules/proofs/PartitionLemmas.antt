@@ -8,11 +8,11 @@ use Rattle.std.proofs.lemmas.List.{length-append, get_or-replicate}
 use Rattle.std.proofs.lemmas.List.Folds.{list_any-append}
 use Rattle.std.proofs.lemmas.List.FromFn.{get_or-map-range_with_len}
 use Rattle.std.proofs.lemmas.Map.Steps.{le-length_from_below}
-use Rattle.rc_model.specs.Numbers.{below}
-use Rattle.rc_sheet_model.specs.Sheet.{Teams}
-use Rattle.rc_sheet_model.specs.WellFormed.{is_among, ArePartition}
-use Rattle.rc_play_model.specs.Shape.{team_among}
-use Rattle.rc_play_model.proofs.Counting.{passing-is, none_passes}
+use Rattle.rc_base.specs.Numbers.{below}
+use Rattle.rc_sheet_spec.specs.Sheet.{Teams}
+use Rattle.rc_sheet_spec.specs.WellFormed.{is_among, ArePartition}
+use Rattle.rc_play_spec.specs.Shape.{team_among}
+use Rattle.rc_play_spec.proofs.Counting.{passing-is, none_passes}
 
 abbrev pub players_of : Teams → List ℕ
 players_of teams = flat_map (λ team. team) teams

@@ -7,10 +7,10 @@ use Rattle.std.proofs.lemmas.List.{map-append, append-nil}
 use Rattle.std.proofs.lemmas.List.Elements.{filter-append}
 use Rattle.std.proofs.lemmas.List.Sums.{fold_push, sum_by_push}
 use Rattle.std.proofs.lemmas.Int.{ints}
-use Rattle.rc_model.specs.Numbers.{below}
+use Rattle.rc_base.specs.Numbers.{below}
 use Rattle.rc_deck.proofs.RangeLemmas.{below_push}
-use Rattle.rc_sheet_model.specs.Sheet.{Sheet}
-use Rattle.rc_play_model.specs.Shape.{team_in}
+use Rattle.rc_sheet_spec.specs.Sheet.{Sheet}
+use Rattle.rc_play_spec.specs.Shape.{team_in}
 use Rattle.rc_rules.specs.Points.{share}
 
 -- one item more

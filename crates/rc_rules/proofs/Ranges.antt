@@ -1,8 +1,8 @@
 -- The place of an owner, in places of names that stand one behind the other.
 use Rattle.std.proofs.Common.{◌≡◌, ℕ, zero, suc, ◌+◌, ◌<◌, Bool, true, false, cond, List, [], ◌∷◌, ◌++◌, length, get_or, drop, Option, Some, None, slice_get, option_map, arith, refl, sym, ap, ◌∙◌, append_assoc}
-use Rattle.rc_sheet_model.specs.Sheet.{Class, Sheet}
-use Rattle.rc_sheet_model.specs.WellFormed.{owner_count}
-use Rattle.rc_play_model.specs.Owners.{place_among}
+use Rattle.rc_sheet_spec.specs.Sheet.{Class, Sheet}
+use Rattle.rc_sheet_spec.specs.WellFormed.{owner_count}
+use Rattle.rc_play_spec.specs.Owners.{place_among}
 use Rattle.rc_rules.specs.Lookup.{Places, ranges_from, place_in}
 use Rattle.rc_rules.proofs.Elements.{drop_here}
 

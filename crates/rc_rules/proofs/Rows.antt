@@ -2,10 +2,10 @@
 use Rattle.std.proofs.Common.{◌≡◌, ℕ, zero, suc, ◌+◌, ◌<◌, List, [], ◌∷◌, ◌++◌, length, get_or, take, map, Some, None, slice_get, arith, refl, sym, ap, ◌∙◌, ℤ, pos, ◌+ℤ◌, cond}
 use Rattle.std.specs.List.{fold, range_with_len}
 use Rattle.std.proofs.lemmas.List.{take_more, map-append}
-use Rattle.rc_model.specs.Numbers.{below}
-use Rattle.rc_model.specs.Clamp.{clamped}
-use Rattle.rc_model.specs.Deck.{Entry, fits_entry, points_of}
-use Rattle.rc_play_model.proofs.SiteLemmas.{unwrap}
+use Rattle.rc_base.specs.Numbers.{below}
+use Rattle.rc_base.specs.Clamp.{clamped}
+use Rattle.rc_base.specs.Deck.{Entry, fits_entry, points_of}
+use Rattle.rc_play_spec.proofs.SiteLemmas.{unwrap}
 
 -- one card more
 pub row_more : {A B : Type 0} (f : A → B) (d : A) (xs : List A) (done done' : List B) (i : ℕ) (b : B) → i < length xs → b ≡ f (get_or xs i d) →

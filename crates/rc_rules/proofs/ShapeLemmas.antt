@@ -8,16 +8,16 @@ use Rattle.std.proofs.lemmas.List.Sums.{sum_by-cons, sum_by_push, sum_by-take-le
 use Rattle.std.proofs.lemmas.List.Concat.{length-flat_map}
 use Rattle.std.proofs.lemmas.List.Elements.{All-from_recursion}
 use Rattle.std.proofs.lemmas.List.FromFn.{length-map-range_with_len}
-use Rattle.rc_model.specs.Numbers.{below}
-use Rattle.rc_model.specs.Deck.{Face, face_count}
+use Rattle.rc_base.specs.Numbers.{below}
+use Rattle.rc_base.specs.Deck.{Face, face_count}
 use Rattle.rc_deck.specs.Product.{faces_of_groups}
 use Rattle.rc_deck.proofs.PathLaws.{AreFaces-faces_of_groups, length-AreFaces}
 use Rattle.rc_deck.proofs.EachLemmas.{append_each}
-use Rattle.rc_sheet_model.specs.Sheet.{Teams, Class, game_class, player_class, team_class, LocName, DeckLine, Sheet}
-use Rattle.rc_sheet_model.specs.WellFormed.{is_among, AreTeams, team_count, owner_count, IsWellFormed}
-use Rattle.rc_play_model.specs.Shape.{Place, team_in, team_among, places_of, first_loc, shape_of}
-use Rattle.rc_play_model.specs.Bound.{HasHomes}
-use Rattle.rc_play_model.proofs.CardLemmas.{map_each, numbers_below}
+use Rattle.rc_sheet_spec.specs.Sheet.{Teams, Class, game_class, player_class, team_class, LocName, DeckLine, Sheet}
+use Rattle.rc_sheet_spec.specs.WellFormed.{is_among, AreTeams, team_count, owner_count, IsWellFormed}
+use Rattle.rc_play_spec.specs.Shape.{Place, team_in, team_among, places_of, first_loc, shape_of}
+use Rattle.rc_play_spec.specs.Bound.{HasHomes}
+use Rattle.rc_play_spec.proofs.CardLemmas.{map_each, numbers_below}
 use Rattle.rc_ast.specs.declared.sheet.Sheet.{Sheet as SheetRead}
 use Rattle.rc_ast.specs.declared.names.LocName.{LocName as LocRead}
 use Rattle.rc_ast.specs.Names.{loc_name_seen}

@@ -1,13 +1,13 @@
 -- Passing the stages of a sheet, and the innermost of the frames.
 use Rattle.std.proofs.Common.{◌≡◌, ℕ, zero, suc, ◌+◌, ◌-◌, arith, ◌<◌, List, [], ◌∷◌, ◌++◌, length, get_or, drop, slice_get, Vec, Global, Bool, true, false, if◌then◌else◌, Some, option_map, unwrap_or, filter, append-nil, ControlFlow, Break, Continue, refl, ap, sym, ◌∙◌}
 use Rattle.std.specs.ControlFlow.{break_value}
-use Rattle.rc_sheet_model.specs.Sheet.{Class}
+use Rattle.rc_sheet_spec.specs.Sheet.{Class}
 use Rattle.std.proofs.lemmas.List.{map-append}
 use Rattle.std.proofs.lemmas.List.Elements.{filter-append}
-use Rattle.rc_play_model.specs.Ends.{last_of}
-use Rattle.rc_play_model.specs.Control.{Frame as PureFrame}
-use Rattle.rc_play_model.specs.Owners.{classes_in, classes_in_item, is_stage_of, current_in}
-use Rattle.rc_sheet_model.specs.Sheet.{Sheet}
+use Rattle.rc_play_spec.specs.Ends.{last_of}
+use Rattle.rc_play_spec.specs.Control.{Frame as PureFrame}
+use Rattle.rc_play_spec.specs.Owners.{classes_in, classes_in_item, is_stage_of, current_in}
+use Rattle.rc_sheet_spec.specs.Sheet.{Sheet}
 use Rattle.rc_ast.specs.declared.expressions.Test.{Test}
 use Rattle.rc_ast.specs.declared.items.SheetItem.{SheetItem, Stage}
 use Rattle.rc_ast.specs.Items.{item_seen, items_seen}

@@ -3,8 +3,8 @@ use Rattle.std.proofs.Common.{◌≡◌, ℕ, ◌+◌, ◌<◌, Bool, true, fals
 use Rattle.std.specs.List.{list_any}
 use Rattle.std.proofs.lemmas.List.{at_drop_more}
 use Rattle.std.proofs.lemmas.Bool.Decides.{Decides-eqb}
-use Rattle.rc_sheet_model.specs.WellFormed.{is_among}
-use Rattle.rc_play_model.specs.Shape.{team_among}
+use Rattle.rc_sheet_spec.specs.WellFormed.{is_among}
+use Rattle.rc_play_spec.specs.Shape.{team_among}
 
 abbrev pub team_items : List (Vec ℕ Global) → List (List ℕ)
 team_items teams = map (λ (team : Vec ℕ Global). team.items) teams

@@ -1,9 +1,9 @@
 -- What a match is played by, as the definitions of play have it.
 use Rattle.std.specs.Prelude.{◌≡◌}
-use Rattle.rc_sheet_model.specs.WellFormed.{IsWellFormed}
-use Rattle.rc_sheet_model.specs.Sight.{IsInSight}
-use Rattle.rc_play_model.specs.Shape.{shape_of}
-use Rattle.rc_play_model.specs.About.{About as PureAbout}
+use Rattle.rc_sheet_spec.specs.WellFormed.{IsWellFormed}
+use Rattle.rc_sheet_spec.specs.Sight.{IsInSight}
+use Rattle.rc_play_spec.specs.Shape.{shape_of}
+use Rattle.rc_play_spec.specs.About.{About as PureAbout}
 use Rattle.rc_rules.specs.Lookup.{IsLookup}
 use Rattle.rc_rules.specs.declared.about.About.TheInside.{Inside}
 

@@ -2,7 +2,7 @@
 use Rattle.std.specs.Prelude.{List, map, Vec}
 use Rattle.std.specs.Global.{Global}
 use Rattle.arrayvec.specs.ArrayVec.{ArrayVec}
-use Rattle.rc_play_model.specs.ItemBounds.{Bound as PureBound, player, card, group}
+use Rattle.rc_play_spec.specs.ItemBounds.{Bound as PureBound, player, card, group}
 use Rattle.rc_rules.specs.declared.bound.Bound.{Bound}
 use Rattle.rc_rules.specs.declared.bound.Bound.TheVariants.{Player, Card, Group}
 

@@ -1,8 +1,8 @@
 -- Controls and stops as the definitions of play have them.
 use Rattle.std.specs.Prelude.{ℕ, List, map}
-use Rattle.rc_play_model.specs.Control.{Frame as PureFrame, Control as PureControl}
-use Rattle.rc_play_model.specs.Step.{Stop as PureStop, decide, is_done, is_limit, Config}
-use Rattle.rc_play_model.specs.Stop.{Stopped}
+use Rattle.rc_play_spec.specs.Control.{Frame as PureFrame, Control as PureControl}
+use Rattle.rc_play_spec.specs.Step.{Stop as PureStop, decide, is_done, is_limit, Config}
+use Rattle.rc_play_spec.specs.Stop.{Stopped}
 use Rattle.rc_rules.specs.declared.control.Frame.{Frame}
 use Rattle.rc_rules.specs.declared.control.Control.{Control}
 use Rattle.rc_rules.specs.declared.control.Stop.{Stop}

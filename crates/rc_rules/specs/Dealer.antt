@@ -1,6 +1,6 @@
 -- Dealers: the states to which shuffles lead, and the dealer of a match.
 use Rattle.std.specs.Prelude.{◌≡◌, ℕ, List, [], ◌∷◌}
-use Rattle.rc_play_model.specs.Effects.{Dealing}
+use Rattle.rc_play_spec.specs.Effects.{Dealing}
 
 -- the state behind shuffles of lists of these sizes, in order
 abbrev pub state_behind : Dealing ℕ → ℕ → List ℕ → ℕ

@@ -1,12 +1,12 @@
 -- What names and cards come to.
 use Rattle.std.specs.Prelude.{◌≡◌, ℕ, ◌+◌, ◌&&◌, nat_lt, if◌then◌else◌, length, List, [], ◌∷◌, map, Option, Some, None, ℤ, Vec}
 use Rattle.std.specs.Global.{Global}
-use Rattle.rc_model.specs.Numbers.{below}
-use Rattle.rc_model.specs.Deck.{Face, Entry, value_at, points_of}
-use Rattle.rc_sheet_model.specs.Sheet.{Class, Sheet}
-use Rattle.rc_sheet_model.specs.WellFormed.{owner_count}
-use Rattle.rc_play_model.specs.Owners.{class_eq, classes_in}
-use Rattle.rc_play_model.specs.Shape.{Shape}
+use Rattle.rc_base.specs.Numbers.{below}
+use Rattle.rc_base.specs.Deck.{Face, Entry, value_at, points_of}
+use Rattle.rc_sheet_spec.specs.Sheet.{Class, Sheet}
+use Rattle.rc_sheet_spec.specs.WellFormed.{owner_count}
+use Rattle.rc_play_spec.specs.Owners.{class_eq, classes_in}
+use Rattle.rc_play_spec.specs.Shape.{Shape}
 use Rattle.rc_rules.specs.declared.range.Range.{Range}
 use Rattle.rc_rules.specs.declared.lookup.Lookup.{Lookup}
 

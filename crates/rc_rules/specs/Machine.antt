@@ -1,12 +1,12 @@
 -- Where a machine stands, and where it may be made.
 use Rattle.std.specs.Prelude.{ℕ, ◌<◌, List, length, unwrap_or}
-use Rattle.rc_play_model.specs.About.{About, menu_at}
-use Rattle.rc_play_model.specs.Menu.{Item}
-use Rattle.rc_play_model.specs.ItemBounds.{Bound, bounds_at}
-use Rattle.rc_play_model.specs.Step.{Config, Stop, decide, is_done, is_limit}
-use Rattle.rc_play_model.specs.Control.{Control}
-use Rattle.rc_play_model.specs.Table.{Table}
-use Rattle.rc_play_model.specs.Fits.{IsDecision, FitsSite}
+use Rattle.rc_play_spec.specs.About.{About, menu_at}
+use Rattle.rc_play_spec.specs.Menu.{Item}
+use Rattle.rc_play_spec.specs.ItemBounds.{Bound, bounds_at}
+use Rattle.rc_play_spec.specs.Step.{Config, Stop, decide, is_done, is_limit}
+use Rattle.rc_play_spec.specs.Control.{Control}
+use Rattle.rc_play_spec.specs.Table.{Table}
+use Rattle.rc_play_spec.specs.Fits.{IsDecision, FitsSite}
 
 -- the menu at the site of the control
 abbrev pub menu_here : About → Config → List Item

@@ -1,6 +1,6 @@
 -- Menus as the definitions of play have them.
 use Rattle.std.specs.Prelude.{List, map}
-use Rattle.rc_play_model.specs.Menu.{Item as PureItem}
+use Rattle.rc_play_spec.specs.Menu.{Item as PureItem}
 use Rattle.rc_rules.specs.declared.menu.Item.{Item}
 
 abbrev pub item_seen : Item → PureItem

@@ -1,7 +1,7 @@
 -- Plans as pure trees, in which no clause meets a vector.
 use Rattle.std.specs.Prelude.{◌≡◌, length, map}
-use Rattle.rc_play_model.specs.About.{About}
-use Rattle.rc_play_model.specs.Plan.{scripted, random, rollout, Strategy as PureStrategy, Deal as PureDeal, Plan as PurePlan}
+use Rattle.rc_play_spec.specs.About.{About}
+use Rattle.rc_play_spec.specs.Plan.{scripted, random, rollout, Strategy as PureStrategy, Deal as PureDeal, Plan as PurePlan}
 use Rattle.rc_rules.specs.declared.plan.Strategy.{Strategy}
 use Rattle.rc_rules.specs.declared.plan.Strategy.TheVariants.{Script, Random, Rollout}
 use Rattle.rc_rules.specs.declared.plan.Deal.{Deal}

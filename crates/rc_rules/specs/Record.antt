@@ -1,6 +1,6 @@
 -- Records and standings as the definitions of transcripts have them.
 use Rattle.std.specs.Prelude.{map}
-use Rattle.rc_model.specs.Transcript.{Pick as PurePick, Ending, done, limit, Score as PureScore, Record, Standing as PureStanding}
+use Rattle.rc_base.specs.Transcript.{Pick as PurePick, Ending, done, limit, Score as PureScore, Record, Standing as PureStanding}
 use Rattle.rc_rules.specs.declared.record.Pick.{Pick}
 use Rattle.rc_rules.specs.declared.record.Ended.{Ended}
 use Rattle.rc_rules.specs.declared.record.Ended.TheVariants.{Done, Limit}

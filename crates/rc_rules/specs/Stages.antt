@@ -2,7 +2,7 @@
 use Rattle.std.specs.Prelude.{ℕ, zero, suc, List, [], ◌∷◌}
 use Rattle.std.specs.declared.ops.ControlFlow.{ControlFlow}
 use Rattle.std.specs.declared.ops.ControlFlow.TheVariants.{Break, Continue}
-use Rattle.rc_sheet_model.specs.Sheet.{Class}
+use Rattle.rc_sheet_spec.specs.Sheet.{Class}
 
 -- the class of the stage behind so many, or how many are left to be passed
 abbrev pub passed : List Class → ℕ → ControlFlow Class ℕ

@@ -1,8 +1,8 @@
 //! What a match is played by.
 ghost use Rattle.std.specs.Prelude.{◌≡◌, IfOk};
-ghost use Rattle.rc_sheet_model.specs.WellFormed.{IsWellFormed};
-ghost use Rattle.rc_sheet_model.specs.Sight.{IsInSight};
-ghost use Rattle.rc_play_model.specs.Shape.{shape_of};
+ghost use Rattle.rc_sheet_spec.specs.WellFormed.{IsWellFormed};
+ghost use Rattle.rc_sheet_spec.specs.Sight.{IsInSight};
+ghost use Rattle.rc_play_spec.specs.Shape.{shape_of};
 ghost use Rattle.rc_ast.specs.Sheet.{sheet_seen};
 ghost use Rattle.rc_rules.specs.Lookup.{IsLookup};
 
@@ -39,7 +39,7 @@ impl Drop for About {
 impl Model for About {
     ghost use Rattle.std.specs.Coded.{codes};
     ghost use Rattle.rc_flow.specs.Codes.{sheet_codes};
-    ghost use Rattle.rc_play_model.specs.About.{About as PureAbout};
+    ghost use Rattle.rc_play_spec.specs.About.{About as PureAbout};
 
     ghost Value = { PureAbout };
 

@@ -1,11 +1,11 @@
 //! Who shuffles.
 ghost use Rattle.std.specs.Prelude.{◌≡◌, ◌≤◌, ℕ, length};
 ghost use Rattle.std.specs.List.Sorted.{IsPermutation};
-ghost use Rattle.rc_model.specs.Numbers.{below};
-ghost use Rattle.rc_model.specs.Limits.{most_cards};
-ghost use Rattle.rc_play_model.specs.Table.{taken};
-ghost use Rattle.rc_play_model.specs.Effects.{Dealing};
-ghost use Rattle.rc_play_model.specs.Keyed.{dealing_of};
+ghost use Rattle.rc_base.specs.Numbers.{below};
+ghost use Rattle.rc_base.specs.Limits.{most_cards};
+ghost use Rattle.rc_play_spec.specs.Table.{taken};
+ghost use Rattle.rc_play_spec.specs.Effects.{Dealing};
+ghost use Rattle.rc_play_spec.specs.Keyed.{dealing_of};
 
 use rc_draw::put_in_order;
 use std::marker::Model;

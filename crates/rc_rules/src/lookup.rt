@@ -1,21 +1,21 @@
 //! What names and cards come to: found once for a sheet, and not at each use.
 ghost use Rattle.std.specs.Prelude.{◌≡◌, ◌+◌, ◌≤◌, length, map, option_map, sum_by, IfOk, All, Some, None, slice_get};
-ghost use Rattle.rc_model.specs.Numbers.{below};
-ghost use Rattle.rc_model.specs.Limits.{most_locations, most_numbers, most_attrs, most_stages};
-ghost use Rattle.rc_model.specs.Clamp.{IsWithinClamp};
-ghost use Rattle.rc_model.specs.Deck.{points_of, value_at};
+ghost use Rattle.rc_base.specs.Numbers.{below};
+ghost use Rattle.rc_base.specs.Limits.{most_locations, most_numbers, most_attrs, most_stages};
+ghost use Rattle.rc_base.specs.Clamp.{IsWithinClamp};
+ghost use Rattle.rc_base.specs.Deck.{points_of, value_at};
 ghost use Rattle.rc_deck.specs.Points.{entries_of};
-ghost use Rattle.rc_sheet_model.specs.WellFormed.{IsWellFormed, owner_count as pure_owner_count};
-ghost use Rattle.rc_play_model.specs.Owners.{classes_in};
-ghost use Rattle.rc_play_model.specs.Shape.{face_at};
+ghost use Rattle.rc_sheet_spec.specs.WellFormed.{IsWellFormed, owner_count as pure_owner_count};
+ghost use Rattle.rc_play_spec.specs.Owners.{classes_in};
+ghost use Rattle.rc_play_spec.specs.Shape.{face_at};
 ghost use Rattle.rc_ast.specs.Sheet.{sheet_seen};
 ghost use Rattle.rc_rules.specs.Lookup.{IsLookup, ranges_from, ranges_seen, place_in, range_seen, value_row, worth_row, rows_seen};
 
 use crate::range::Range;
 use crate::stages::{class_of_stage, owner_count};
 use rc_ast::{Class, Sheet};
+use rc_base::limits::MOST_STAGES;
 use rc_deck::{Memory, PointMap, attr, points};
-use rc_names::limits::MOST_STAGES;
 use rc_table::Shape;
 use std::alloc::Global;
 

@@ -1,11 +1,11 @@
 //! Machines that play a match.
 ghost use Rattle.std.specs.Prelude.{◌≡◌, ◌<◌, ◌≤◌, ℕ, Bool, true, false, length, Some, is_err, IfOk, OnOk, OnErr};
-ghost use Rattle.rc_model.specs.Limits.{most_items};
-ghost use Rattle.rc_play_model.specs.About.{About as PureAbout};
-ghost use Rattle.rc_play_model.specs.Step.{Config, goes};
-ghost use Rattle.rc_play_model.specs.Stop.{stop_of};
-ghost use Rattle.rc_play_model.specs.Decision.{choose};
-ghost use Rattle.rc_play_model.specs.Scores.{scores_of};
+ghost use Rattle.rc_base.specs.Limits.{most_items};
+ghost use Rattle.rc_play_spec.specs.About.{About as PureAbout};
+ghost use Rattle.rc_play_spec.specs.Step.{Config, goes};
+ghost use Rattle.rc_play_spec.specs.Stop.{stop_of};
+ghost use Rattle.rc_play_spec.specs.Decision.{choose};
+ghost use Rattle.rc_play_spec.specs.Scores.{scores_of};
 ghost use Rattle.rc_rules.specs.Control.{control_seen, stop_seen};
 ghost use Rattle.rc_rules.specs.Dealer.{ShuffledBy};
 ghost use Rattle.rc_rules.specs.Bounds.{bounds_seen};

@@ -1,11 +1,11 @@
 //! What a choice offers.
 ghost use Rattle.std.specs.Prelude.{◌≡◌, ◌∷◌, ◌++◌, ◌+◌, [], ◌==◌, ◌<◌, ◌≤◌, length, slice_index_or, IfOk};
-ghost use Rattle.rc_model.specs.Limits.{most_items};
+ghost use Rattle.rc_base.specs.Limits.{most_items};
 ghost use Rattle.rc_rules.specs.Menu.{item_seen};
 
 use arrayvec::ArrayVec;
+use rc_base::limits::MOST_ITEMS;
 use rc_deck::Memory;
-use rc_names::limits::MOST_ITEMS;
 use std::alloc::Global;
 use std::marker::Model;
 
@@ -49,7 +49,7 @@ pub struct Items {
 
 impl Model for Items {
     ghost use Rattle.std.specs.Prelude.{◌≤◌, vec_len, vec_capacity};
-    ghost use Rattle.rc_model.specs.Limits.{most_items};
+    ghost use Rattle.rc_base.specs.Limits.{most_items};
     ghost use Rattle.rc_rules.specs.Menu.{Listed};
 
     ghost Value = { Listed };

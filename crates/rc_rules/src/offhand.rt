@@ -1,7 +1,7 @@
 //! What strategies pick that ask nothing of playouts.
 ghost use Rattle.std.specs.Prelude.{◌≡◌, ◌<◌, slice_index, IfSome};
-ghost use Rattle.rc_play_model.specs.Draws.{keyed, picks, drawn_for};
-ghost use Rattle.rc_play_model.specs.Strategy.{scripted_item};
+ghost use Rattle.rc_play_spec.specs.Draws.{keyed, picks, drawn_for};
+ghost use Rattle.rc_play_spec.specs.Strategy.{scripted_item};
 ghost use Rattle.rc_rules.specs.Control.{control_seen};
 ghost use Rattle.rc_rules.specs.Offhand.{offhand_of};
 ghost use Rattle.rc_rules.specs.Plan.{strategy_seen};

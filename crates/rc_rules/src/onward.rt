@@ -1,8 +1,8 @@
 //! From one decision of a match to the stop behind it.
 ghost use Rattle.std.specs.Prelude.{◌≡◌, ◌<◌, false, length, Some, IfOk, OnOk};
-ghost use Rattle.rc_play_model.specs.Play.{stop_behind};
-ghost use Rattle.rc_play_model.specs.Decision.{choose};
-ghost use Rattle.rc_play_model.specs.Keyed.{dealing_of};
+ghost use Rattle.rc_play_spec.specs.Play.{stop_behind};
+ghost use Rattle.rc_play_spec.specs.Decision.{choose};
+ghost use Rattle.rc_play_spec.specs.Keyed.{dealing_of};
 ghost use Rattle.rc_rules.specs.Control.{stop_seen, stopped_of};
 ghost use Rattle.rc_rules.specs.Machine.{StopsAtDecision, IsWhereItStops, menu_here};
 

@@ -1,7 +1,7 @@
 //! Rank points.
 ghost use Rattle.std.specs.Prelude.{◌≡◌, ◌≤◌, length, map, pos, slice_index_or, None};
-ghost use Rattle.rc_model.specs.Numbers.{below};
-ghost use Rattle.rc_play_model.specs.Scores as play;
+ghost use Rattle.rc_base.specs.Numbers.{below};
+ghost use Rattle.rc_play_spec.specs.Scores as play;
 ghost use Rattle.rc_ast.specs.Sheet.{sheet_seen, best_seen};
 ghost use Rattle.rc_rules.specs.Points.{share};
 

@@ -1,14 +1,14 @@
 //! The shape of a sheet.
 ghost use Rattle.std.specs.Prelude.{◌≡◌, ◌≤◌, ◌<◌, ◌++◌, map, length, sum_by, IfOk, OnOk};
-ghost use Rattle.rc_model.specs.Numbers.{below};
-ghost use Rattle.rc_model.specs.Deck.{face_count};
-ghost use Rattle.rc_model.specs.Limits.{most_cards, most_locations};
+ghost use Rattle.rc_base.specs.Numbers.{below};
+ghost use Rattle.rc_base.specs.Deck.{face_count};
+ghost use Rattle.rc_base.specs.Limits.{most_cards, most_locations};
 ghost use Rattle.rc_deck.specs.Tree.{groups_of};
 ghost use Rattle.rc_deck.specs.Product.{faces_of_groups};
-ghost use Rattle.rc_sheet_model.specs.Sheet as model;
-ghost use Rattle.rc_sheet_model.specs.WellFormed.{IsWellFormed};
-ghost use Rattle.rc_sheet_model.specs.WellFormed as well;
-ghost use Rattle.rc_play_model.specs.Shape as play;
+ghost use Rattle.rc_sheet_spec.specs.Sheet as model;
+ghost use Rattle.rc_sheet_spec.specs.WellFormed.{IsWellFormed};
+ghost use Rattle.rc_sheet_spec.specs.WellFormed as well;
+ghost use Rattle.rc_play_spec.specs.Shape as play;
 ghost use Rattle.rc_ast.specs.Sheet.{sheet_seen, deck_line_seen};
 ghost use Rattle.rc_ast.specs.Names.{loc_name_seen};
 ghost use Rattle.rc_table.specs.Places.{place_seen, class_of, number_of};
@@ -16,10 +16,10 @@ ghost use Rattle.rc_table.specs.Places.{place_seen, class_of, number_of};
 use crate::stages::owner_count;
 use crate::teams::team_in;
 use rc_ast::{DeckLine, LocName, Sheet};
+use rc_base::Class;
+use rc_base::limits::MOST_CARDS;
 use rc_deck::{DeckTree, Face, Memory, count_of, faces_of};
-use rc_names::Class;
-use rc_names::limits::MOST_CARDS;
-use rc_play_model::opening_tables_are_sound;
+use rc_play_spec::opening_tables_are_sound;
 use rc_table::{Owner, Place, Shape};
 use std::alloc::Global;
 

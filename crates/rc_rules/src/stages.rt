@@ -1,8 +1,8 @@
 //! Whose turn it is in the open stages.
 ghost use Rattle.std.specs.Prelude.{◌≡◌, length, slice_get};
-ghost use Rattle.rc_sheet_model.specs.WellFormed as well;
-ghost use Rattle.rc_play_model.specs.Owners as owners;
-ghost use Rattle.rc_play_model.specs.Owners.{classes_in, classes_in_item};
+ghost use Rattle.rc_sheet_spec.specs.WellFormed as well;
+ghost use Rattle.rc_play_spec.specs.Owners as owners;
+ghost use Rattle.rc_play_spec.specs.Owners.{classes_in, classes_in_item};
 ghost use Rattle.rc_ast.specs.Sheet.{sheet_seen};
 ghost use Rattle.rc_ast.specs.Items.{item_seen, items_seen};
 ghost use Rattle.rc_rules.specs.Control.{frames_seen};
@@ -11,7 +11,7 @@ ghost use Rattle.rc_rules.specs.Stages.{passed};
 use crate::about::About;
 use crate::control::Frame;
 use rc_ast::{Sheet, SheetItem};
-use rc_names::Class;
+use rc_base::Class;
 use std::ops::ControlFlow;
 
 /// The class of the stage with this number, if there is one. Stages are numbered in the order of the text.

@@ -1,6 +1,6 @@
 //! The teams of players.
 ghost use Rattle.std.specs.Prelude.{◌≡◌, map};
-ghost use Rattle.rc_play_model.specs.Shape as shape;
+ghost use Rattle.rc_play_spec.specs.Shape as shape;
 ghost use Rattle.rc_ast.specs.Sheet.{sheet_seen, teams_seen};
 
 use rc_ast::{Sheet, Teams};

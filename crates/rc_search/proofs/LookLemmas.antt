@@ -6,15 +6,15 @@ use Rattle.std.specs.Prelude.{Box}
 use Rattle.std.proofs.lemmas.List.{length-map}
 use Rattle.std.proofs.lemmas.List.FromFn.{length-range_with_len, length-map-range_with_len}
 use Rattle.std.proofs.lemmas.List.Sums.{fold_push}
-use Rattle.rc_model.specs.Numbers.{below}
-use Rattle.rc_sheet_model.specs.Sheet.{Sheet}
-use Rattle.rc_play_model.specs.About.{About}
-use Rattle.rc_play_model.specs.Effects.{Dealing}
-use Rattle.rc_play_model.specs.Step.{Config, Stop, goes}
-use Rattle.rc_play_model.specs.Stop.{stop_of}
-use Rattle.rc_play_model.specs.Decision.{choose}
-use Rattle.rc_play_model.specs.Play.{stop_behind}
-use Rattle.rc_play_model.specs.Scores.{score_of, scores_of}
+use Rattle.rc_base.specs.Numbers.{below}
+use Rattle.rc_sheet_spec.specs.Sheet.{Sheet}
+use Rattle.rc_play_spec.specs.About.{About}
+use Rattle.rc_play_spec.specs.Effects.{Dealing}
+use Rattle.rc_play_spec.specs.Step.{Config, Stop, goes}
+use Rattle.rc_play_spec.specs.Stop.{stop_of}
+use Rattle.rc_play_spec.specs.Decision.{choose}
+use Rattle.rc_play_spec.specs.Play.{stop_behind}
+use Rattle.rc_play_spec.specs.Scores.{score_of, scores_of}
 use Rattle.rc_rules.proofs.PointLemmas.{mapped_push, summed_push}
 use Rattle.rc_flat.specs.Machine.{Machine, KeepsTables}
 use Rattle.rc_flat.specs.Moments.{IsMoment, StaysInMatch}
@@ -22,8 +22,8 @@ use Rattle.rc_search.specs.Keeping.{IsKept}
 use Rattle.rc_flat.specs.declared.moments.Moment.{Moment}
 use Rattle.rc_flat.proofs.MarkLemmas.{keeps_then}
 use Rattle.rc_flat.proofs.GoingLemmas.{stays_then, stays_kept}
-use Rattle.rc_search_model.specs.Search.{best_for, next_behind}
-use Rattle.rc_search_model.proofs.BestPoints.{best_push, best_alone}
+use Rattle.rc_play_spec.specs.Search.{best_for, next_behind}
+use Rattle.rc_play_spec.proofs.BestPoints.{best_push, best_alone}
 use Rattle.rc_search.specs.declared.dealer.Way.{Way}
 use Rattle.rc_search.specs.Looking.{Tells, worth_behind, worths, value_behind, values, tried_behind, tried_with}
 use Rattle.rc_search.specs.Pruning.{bounded_to}

@@ -1,17 +1,17 @@
 -- Machines that stand at the root of a round.
 use Rattle.std.proofs.Common.{◌≡◌, ℕ, List, ◌<◌, false, length, Some, IsSome, unwrap_or, Result, Ok, Err, IfOk, sym, ap, ◌∙◌, subst}
-use Rattle.rc_play_model.specs.Control.{Control}
-use Rattle.rc_play_model.specs.Table.{Table}
-use Rattle.rc_play_model.specs.About.{About, menu_at}
-use Rattle.rc_play_model.specs.Step.{Config}
-use Rattle.rc_play_model.specs.Decision.{at_site}
-use Rattle.rc_play_model.specs.Draws.{key32, drawn_for, search_redraws}
-use Rattle.rc_play_model.specs.View.{View}
-use Rattle.rc_play_model.specs.Redraw.{redraw}
-use Rattle.rc_play_model.specs.Shape.{Shape, shape_of}
-use Rattle.rc_play_model.specs.Strategy.{menu_size}
-use Rattle.rc_play_model.specs.ChoiceLaws.{SizeRedrawn}
-use Rattle.rc_sheet_model.specs.Sight.{IsInSight}
+use Rattle.rc_play_spec.specs.Control.{Control}
+use Rattle.rc_play_spec.specs.Table.{Table}
+use Rattle.rc_play_spec.specs.About.{About, menu_at}
+use Rattle.rc_play_spec.specs.Step.{Config}
+use Rattle.rc_play_spec.specs.Decision.{at_site}
+use Rattle.rc_play_spec.specs.Draws.{key32, drawn_for, search_redraws}
+use Rattle.rc_play_spec.specs.View.{View}
+use Rattle.rc_play_spec.specs.Redraw.{redraw}
+use Rattle.rc_play_spec.specs.Shape.{Shape, shape_of}
+use Rattle.rc_play_spec.specs.Strategy.{menu_size}
+use Rattle.rc_play_spec.specs.ChoiceLaws.{SizeRedrawn}
+use Rattle.rc_sheet_spec.specs.Sight.{IsInSight}
 use Rattle.rc_table.specs.Laid.{Laid}
 use Rattle.rc_rules.specs.Machine.{StopsAtDecision, menu_here, CanDecide}
 use Rattle.rc_redraw.specs.Need.{IsAtDecision}

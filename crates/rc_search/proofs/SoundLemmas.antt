@@ -1,15 +1,15 @@
 -- A match in which a search plays stays that match from stop to stop.
 use Rattle.std.proofs.Common.{◌≡◌, ℕ, ◌+◌, ◌<◌, Bool, false, length, Option, Some, None, refl, sym, ap, ◌∙◌, subst}
-use Rattle.rc_model.specs.Transcript.{Record}
-use Rattle.rc_sheet_model.specs.Sight.{IsInSight}
-use Rattle.rc_sheet_model.specs.WellFormed.{IsWellFormed}
-use Rattle.rc_play_model.specs.Shape.{shape_of}
-use Rattle.rc_play_model.specs.View.{View}
-use Rattle.rc_play_model.specs.About.{About}
-use Rattle.rc_play_model.specs.Step.{Config, Stop, decide, is_done, is_limit}
-use Rattle.rc_play_model.specs.Plan.{Plan, deal_at}
-use Rattle.rc_play_model.specs.Keyed.{dealing_of}
-use Rattle.rc_play_model.proofs.FollowLemmas.{mapped}
+use Rattle.rc_base.specs.Transcript.{Record}
+use Rattle.rc_sheet_spec.specs.Sight.{IsInSight}
+use Rattle.rc_sheet_spec.specs.WellFormed.{IsWellFormed}
+use Rattle.rc_play_spec.specs.Shape.{shape_of}
+use Rattle.rc_play_spec.specs.View.{View}
+use Rattle.rc_play_spec.specs.About.{About}
+use Rattle.rc_play_spec.specs.Step.{Config, Stop, decide, is_done, is_limit}
+use Rattle.rc_play_spec.specs.Plan.{Plan, deal_at}
+use Rattle.rc_play_spec.specs.Keyed.{dealing_of}
+use Rattle.rc_play_spec.proofs.FollowLemmas.{mapped}
 use Rattle.rc_redraw.specs.Need.{Need}
 use Rattle.rc_match.specs.Lane.{Phase, ready, asks, missed, holds, over, spent, MatchLane, noted, next_stop, lane_at, stepped}
 use Rattle.rc_match.specs.Way.{IsFresh, IsOnWay}
@@ -18,9 +18,9 @@ use Rattle.rc_match.specs.Asks.{decisions_in}
 use Rattle.rc_match.proofs.PlayLemmas.{decided, decided_in}
 use Rattle.rc_match.proofs.SoundBy.{sound_answered, one_left}
 use Rattle.rc_match.proofs.WayLemmas.{lane_on}
-use Rattle.rc_search_model.specs.Search.{Rival}
-use Rattle.rc_search_model.specs.Rivals.{rival_choice, rival_play, rival_match}
-use Rattle.rc_search_model.proofs.RivalLemmas.{rival-lt}
+use Rattle.rc_play_spec.specs.Search.{Rival}
+use Rattle.rc_play_spec.specs.Rivals.{rival_choice, rival_play, rival_match}
+use Rattle.rc_play_spec.proofs.RivalLemmas.{rival-lt}
 use Rattle.rc_search.specs.Chosen.{IsAsked, Chosen}
 
 module _ (about : About) (rival : Rival) (plan : Plan) (m : ℕ) where

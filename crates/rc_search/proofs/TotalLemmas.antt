@@ -4,18 +4,18 @@ use Rattle.std.specs.Prelude.{All, sum_by}
 use Rattle.std.specs.List.{range_with_len}
 use Rattle.std.proofs.lemmas.List.FromFn.{length-map-range_with_len, get_or-map-range_with_len}
 use Rattle.std.proofs.lemmas.List.Elements.{All-append, All-cons, All-nil}
-use Rattle.rc_model.specs.Numbers.{below}
-use Rattle.rc_play_model.specs.About.{About, menu_at}
-use Rattle.rc_play_model.specs.View.{View}
-use Rattle.rc_play_model.specs.Shape.{shape_of}
-use Rattle.rc_play_model.specs.Draws.{key32, drawn_for, search_redraws}
-use Rattle.rc_play_model.specs.Step.{decide}
-use Rattle.rc_play_model.specs.Strategy.{menu_size}
-use Rattle.rc_play_model.specs.ChoiceLaws.{SizeRedrawn}
-use Rattle.rc_sheet_model.specs.Sight.{IsInSight}
+use Rattle.rc_base.specs.Numbers.{below}
+use Rattle.rc_play_spec.specs.About.{About, menu_at}
+use Rattle.rc_play_spec.specs.View.{View}
+use Rattle.rc_play_spec.specs.Shape.{shape_of}
+use Rattle.rc_play_spec.specs.Draws.{key32, drawn_for, search_redraws}
+use Rattle.rc_play_spec.specs.Step.{decide}
+use Rattle.rc_play_spec.specs.Strategy.{menu_size}
+use Rattle.rc_play_spec.specs.ChoiceLaws.{SizeRedrawn}
+use Rattle.rc_sheet_spec.specs.Sight.{IsInSight}
 use Rattle.rc_redraw.specs.Need.{IsAtDecision}
 use Rattle.rc_rules.proofs.PointLemmas.{mapped_push, summed_push}
-use Rattle.rc_search_model.specs.Search.{Rival, dealing_in, root_of, gain, total, totals, tried, plain_steps}
+use Rattle.rc_play_spec.specs.Search.{Rival, dealing_in, root_of, gain, total, totals, tried, plain_steps}
 use Rattle.rc_search.specs.Looking.{tried_with}
 use Rattle.rc_search.specs.Rounds.{in_rounds, way_in, root_on, gain_on, tried_on}
 

@@ -1,9 +1,9 @@
 -- Moments that are kept while items are tried.
 use Rattle.std.specs.Prelude.{◌≡◌, List, Option, None, Some, All, Box}
 use Rattle.std.specs.Global.{Global}
-use Rattle.rc_play_model.specs.Shape.{Shape}
-use Rattle.rc_play_model.specs.About.{About}
-use Rattle.rc_play_model.specs.Step.{Config}
+use Rattle.rc_play_spec.specs.Shape.{Shape}
+use Rattle.rc_play_spec.specs.About.{About}
+use Rattle.rc_play_spec.specs.Step.{Config}
 use Rattle.rc_code.specs.Instruction.{Instruction}
 use Rattle.rc_flat.specs.Moments.{IsMoment}
 use Rattle.rc_flat.specs.declared.moments.Moment.{Moment}

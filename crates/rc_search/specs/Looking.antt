@@ -1,10 +1,10 @@
 -- What an item is worth behind a decision, how many items are tried behind it, and how counts of these are told.
 use Rattle.std.specs.Prelude.{◌≡◌, ℕ, ◌+◌, ◌-◌, ◌≤◌, min, List, [], map, sum_by}
-use Rattle.rc_model.specs.Numbers.{below}
-use Rattle.rc_play_model.specs.About.{About}
-use Rattle.rc_play_model.specs.Step.{Config, Stop}
-use Rattle.rc_search_model.specs.Search.{at_stop, next_behind, worth, tried}
-use Rattle.rc_search_model.specs.Value.{value}
+use Rattle.rc_base.specs.Numbers.{below}
+use Rattle.rc_play_spec.specs.About.{About}
+use Rattle.rc_play_spec.specs.Step.{Config, Stop}
+use Rattle.rc_play_spec.specs.Search.{at_stop, next_behind, worth, tried}
+use Rattle.rc_play_spec.specs.SearchValue.{value}
 use Rattle.rc_search.specs.declared.dealer.Way.{Way}
 use Rattle.rc_search.specs.Shuffling.{dealing_on}
 

@@ -1,21 +1,21 @@
 -- Rounds of a search: where a machine stands at the root of one, what items are worth there, and the totals of the
 -- first ones.
 use Rattle.std.specs.Prelude.{◌≡◌, ℕ, false, length, slice_index, IsSome}
-use Rattle.rc_play_model.specs.About.{About}
-use Rattle.rc_play_model.specs.View.{View}
-use Rattle.rc_play_model.specs.Table.{Table}
-use Rattle.rc_play_model.specs.Draws.{key32, drawn_for, search_redraws}
-use Rattle.rc_play_model.specs.Redraw.{redraw}
-use Rattle.rc_play_model.specs.Step.{Config}
-use Rattle.rc_play_model.specs.Decision.{at_site}
-use Rattle.rc_play_model.specs.Strategy.{menu_size}
+use Rattle.rc_play_spec.specs.About.{About}
+use Rattle.rc_play_spec.specs.View.{View}
+use Rattle.rc_play_spec.specs.Table.{Table}
+use Rattle.rc_play_spec.specs.Draws.{key32, drawn_for, search_redraws}
+use Rattle.rc_play_spec.specs.Redraw.{redraw}
+use Rattle.rc_play_spec.specs.Step.{Config}
+use Rattle.rc_play_spec.specs.Decision.{at_site}
+use Rattle.rc_play_spec.specs.Strategy.{menu_size}
 use Rattle.rc_rules.specs.Machine.{StopsAtDecision, menu_here}
 use Rattle.rc_table.specs.Laid.{Laid}
 use Rattle.rc_redraw.specs.Redraws.{Redrawn}
 use Rattle.rc_flat.specs.Machine.{Machine}
 use Rattle.rc_flat.specs.Moments.{IsMoment}
 use Rattle.rc_flat.specs.declared.moments.Moment.{Moment}
-use Rattle.rc_search_model.specs.Search.{Rival}
+use Rattle.rc_play_spec.specs.Search.{Rival}
 use Rattle.rc_search.specs.declared.dealer.Way.{Way}
 use Rattle.rc_search.specs.Looking.{worth_behind, tried_with}
 

@@ -1,6 +1,6 @@
 //! Who shuffles in searches.
 ghost use Rattle.std.specs.Prelude.{◌≡◌, ◌<◌};
-ghost use Rattle.rc_play_model.specs.Draws.{drawn_for, key32 as key32_of, search_redraws};
+ghost use Rattle.rc_play_spec.specs.Draws.{drawn_for, key32 as key32_of, search_redraws};
 ghost use Rattle.rc_search.specs.Shuffling.{dealing_on};
 
 use rc_draw::{Purpose, key32, put_in_order};

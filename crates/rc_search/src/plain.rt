@@ -1,10 +1,10 @@
 //! What stops are worth, with no item left out.
 ghost use Rattle.std.specs.Prelude.{◌≡◌, ◌<◌, ◌≤◌, ◌+◌, nat_lt, true, false, min, if◌then◌else◌};
 ghost use Rattle.std.specs.Prelude.{length, slice_index, IsSome, IfOk, OnOk};
-ghost use Rattle.rc_play_model.specs.About.{menu_at};
+ghost use Rattle.rc_play_spec.specs.About.{menu_at};
 ghost use Rattle.rc_rules.specs.Control.{stop_seen};
 ghost use Rattle.rc_rules.specs.Machine.{Decides, StopsAtDecision, IsWhereItStops, menu_here};
-ghost use Rattle.rc_search_model.specs.Search.{best_for, all_points as points_there};
+ghost use Rattle.rc_play_spec.specs.Search.{best_for, all_points as points_there};
 ghost use Rattle.rc_flat.specs.Moments.{StaysInMatch};
 ghost use Rattle.rc_search.specs.Keeping.{AreOfShape};
 ghost use Rattle.rc_search.specs.Looking.{Tells, tried_at, tried_behind, tried_with, worth_at, worth_behind, worths};
@@ -13,10 +13,10 @@ use crate::dealer::{SearchDealer, Way};
 use crate::rooms::Rooms;
 use crate::stand::{give_back, keep_for, stand_for};
 use arrayvec::ArrayVec;
+use rc_base::Steps;
 use rc_deck::Memory;
 use rc_flat::FlatMachine;
 use rc_rules::{About, Machine, Stop, rank_points};
-use rc_steps::Steps;
 use std::sync::ledger::Ledger;
 
 /// Rank points, one for each player.

@@ -1,11 +1,11 @@
 //! What stops are worth to one seat in a game of two teams, with those items left out that can't change it.
 ghost use Rattle.std.specs.Prelude.{◌≡◌, ◌<◌, ◌≤◌, ◌+◌, true, false, max, min, fold, length, if◌then◌else◌, IsSome, IfOk, OnOk};
 ghost use Rattle.rc_ast.specs.Sheet.{sheet_seen};
-ghost use Rattle.rc_play_model.specs.About.{menu_at};
-ghost use Rattle.rc_play_model.specs.Scores as play;
+ghost use Rattle.rc_play_spec.specs.About.{menu_at};
+ghost use Rattle.rc_play_spec.specs.Scores as play;
 ghost use Rattle.rc_rules.specs.Control.{stop_seen};
 ghost use Rattle.rc_rules.specs.Machine.{Decides, StopsAtDecision, IsWhereItStops, menu_here};
-ghost use Rattle.rc_search_model.specs.Value.{most_points as most_for};
+ghost use Rattle.rc_play_spec.specs.SearchValue.{most_points as most_for};
 ghost use Rattle.rc_flat.specs.Moments.{StaysInMatch};
 ghost use Rattle.rc_search.specs.Keeping.{AreOfShape};
 ghost use Rattle.rc_search.specs.Sides.{AreSides};
@@ -18,10 +18,10 @@ use crate::rooms::Rooms;
 use crate::sides::{Sides, is_mate, points_by};
 use crate::stand::{give_back, keep_for, stand_for};
 use rc_ast::Sheet;
+use rc_base::Steps;
 use rc_deck::Memory;
 use rc_flat::FlatMachine;
 use rc_rules::{About, Machine, Stop};
-use rc_steps::Steps;
 use std::sync::ledger::Ledger;
 
 /// What an item is worth to the seat, so many decisions deep behind it, if that lies between two bounds, and otherwise

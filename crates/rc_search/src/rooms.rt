@@ -1,6 +1,6 @@
 //! Room for moments, which is used again.
 ghost use Rattle.std.specs.Prelude.{◌≡◌, false, IfOk, OnOk};
-ghost use Rattle.rc_play_model.specs.Shape.{Shape};
+ghost use Rattle.rc_play_spec.specs.Shape.{Shape};
 ghost use Rattle.rc_flat.specs.Moments.{IsMoment};
 ghost use Rattle.rc_search.specs.Keeping.{AreOfShape};
 

@@ -1,10 +1,10 @@
 //! The teams of players, found once for a search, and the rank points that scores give by them.
 ghost use Rattle.std.specs.Prelude.{◌≡◌, ◌≤◌, length, slice_index_or, pos};
 ghost use Rattle.rc_ast.specs.Sheet.{sheet_seen, best_seen};
-ghost use Rattle.rc_play_model.specs.Scores as play;
-ghost use Rattle.rc_play_model.specs.Shape.{team_in as team_of};
+ghost use Rattle.rc_play_spec.specs.Scores as play;
+ghost use Rattle.rc_play_spec.specs.Shape.{team_in as team_of};
 ghost use Rattle.rc_rules.specs.Points.{share};
-ghost use Rattle.rc_search_model.specs.Value.{is_mate as is_mate_in};
+ghost use Rattle.rc_play_spec.specs.SearchValue.{is_mate as is_mate_in};
 ghost use Rattle.rc_search.specs.Sides.{AreSides};
 
 use arrayvec::ArrayVec;

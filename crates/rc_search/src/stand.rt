@@ -1,7 +1,7 @@
 //! Machines that stand at one decision for one item after another.
 ghost use Rattle.std.specs.Prelude.{◌≡◌, ◌<◌, false, None, IsSome, IfSome, IfOk, OnOk};
-ghost use Rattle.rc_play_model.specs.Shape.{Shape};
-ghost use Rattle.rc_play_model.specs.Step.{Config};
+ghost use Rattle.rc_play_spec.specs.Shape.{Shape};
+ghost use Rattle.rc_play_spec.specs.Step.{Config};
 ghost use Rattle.rc_flat.specs.Moments.{IsMoment, StaysInMatch};
 ghost use Rattle.rc_search.specs.Keeping.{AreOfShape, IsKept};
 

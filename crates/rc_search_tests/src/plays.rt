@@ -1,13 +1,13 @@
 //! Texts of plans in which one strategy searches.
 ghost use Rattle.std.specs.Prelude.{◌≡◌, length, IfOk};
-ghost use Rattle.rc_plan_model.specs.Limits.{IsWithinLimits};
+ghost use Rattle.rc_play_spec.specs.Limits.{IsWithinLimits};
 ghost use Rattle.rc_rules.specs.Plan.{plan_seen};
 ghost use Rattle.rc_search.specs.Rival.{IsRival};
 
+use rc_base::limits::LONGEST_TEXT;
 use rc_flow::Checked;
 use rc_form::read_forms;
 use rc_games::checked_of_form;
-use rc_names::limits::LONGEST_TEXT;
 use rc_plan::plan_of;
 use rc_rivals::{Rival, rivals_of};
 use rc_rules::Plan;

@@ -4,11 +4,11 @@ ghost use Rattle.rc_code.specs.Seen.{code_seen};
 ghost use Rattle.rc_code.specs.Stands.{StandsFor};
 ghost use Rattle.rc_search.specs.Rival.{CanBeSearched, IsRival};
 
+use rc_base::Steps;
 use rc_flat::FlatMachine;
 use rc_games::{Game, game_in};
 use rc_match::{Job, Phase, begin, lane_step};
 use rc_search::{Found, Rival, Seen, has_two_teams, plain_totals, pruned_totals};
-use rc_steps::Steps;
 use rc_trick::trick_text;
 use std::alloc::Global;
 use std::marker::Brand;

@@ -1,16 +1,16 @@
 -- What is read is told by the laws of logs.
 use Rattle.std.proofs.Common.{◌≡◌, ℕ, ◌<◌, ◌==◌, Bool, List, length, codes, Option, Some, None, Result, Ok, Err, IfOk, IfErr, refl, sym, ap, arith, ne_eqb}
 use Rattle.std.proofs.lemmas.Bool.{cond-false}
-use Rattle.rc_play_model.specs.Shape.{Shape}
-use Rattle.rc_play_model.specs.View.{Sight, View}
+use Rattle.rc_play_spec.specs.Shape.{Shape}
+use Rattle.rc_play_spec.specs.View.{Sight, View}
 use Rattle.rc_table.specs.Shape.{IsShape}
-use Rattle.rc_text_model.specs.Fields.{◌>>=◌, number}
-use Rattle.rc_text_model.proofs.FieldLemmas.{bind_some, some_is, number-only}
-use Rattle.rc_log_model.specs.Lines.{sight_in, place_in}
-use Rattle.rc_log_model.specs.Log.{text_of, IsLog}
-use Rattle.rc_log_model.specs.Reading.{place_at, behind_place, with_sight, read_log}
-use Rattle.rc_log_model.specs.Laws.{ReadIsLog, FaultIsFirst, LogHasViews, IsFirstFaultOf}
-use Rattle.rc_log_model.proofs.Matches.{is_small}
+use Rattle.rc_play_spec.specs.Fields.{◌>>=◌, number}
+use Rattle.rc_play_spec.proofs.FieldLemmas.{bind_some, some_is, number-only}
+use Rattle.rc_log_spec.specs.Lines.{sight_in, place_in}
+use Rattle.rc_log_spec.specs.Log.{text_of, IsLog}
+use Rattle.rc_log_spec.specs.Reading.{place_at, behind_place, with_sight, read_log}
+use Rattle.rc_log_spec.specs.Laws.{ReadIsLog, FaultIsFirst, LogHasViews, IsFirstFaultOf}
+use Rattle.rc_log_spec.proofs.Matches.{is_small}
 use Rattle.rc_seatlog.specs.Seen.{log_seen}
 use Rattle.rc_seatlog.specs.Gives.{Gives, IfLogFault, IsOfViews}
 use Rattle.rc_seatlog.specs.declared.told.LogText.{LogText}

@@ -1,20 +1,20 @@
 -- A play goes from choice to choice.
 use Rattle.std.proofs.Common.{◌≡◌, ℕ, zero, suc, ◌+◌, ◌<◌, List, [], ◌∷◌, ◌++◌, append_assoc, length, map, take, drop, get_or, unwrap_or, Option, None, Some, refl, sym, ap, ◌∙◌, subst, arith}
 use Rattle.std.proofs.lemmas.List.{at_drop_more}
-use Rattle.rc_model.specs.Transcript.{Pick}
-use Rattle.rc_play_model.specs.About.{About, menu_at}
-use Rattle.rc_play_model.specs.Effects.{Dealing}
-use Rattle.rc_play_model.specs.Step.{Config, Stop, decide, is_done, is_limit}
-use Rattle.rc_play_model.specs.Stop.{Stopped}
-use Rattle.rc_play_model.specs.Decision.{choose}
-use Rattle.rc_play_model.specs.Play.{stop_behind}
-use Rattle.rc_text_model.specs.Legal.{IsMade, Leads}
-use Rattle.rc_play_model.specs.Step.{start}
-use Rattle.rc_play_model.specs.Stop.{stop_of}
-use Rattle.rc_play_model.specs.View.{View, view_of}
-use Rattle.rc_log_model.specs.Views.{views_from}
-use Rattle.rc_log_model.specs.Plays.{IsPlayOf}
-use Rattle.rc_text_model.proofs.FieldLemmas.{some_is}
+use Rattle.rc_base.specs.Transcript.{Pick}
+use Rattle.rc_play_spec.specs.About.{About, menu_at}
+use Rattle.rc_play_spec.specs.Effects.{Dealing}
+use Rattle.rc_play_spec.specs.Step.{Config, Stop, decide, is_done, is_limit}
+use Rattle.rc_play_spec.specs.Stop.{Stopped}
+use Rattle.rc_play_spec.specs.Decision.{choose}
+use Rattle.rc_play_spec.specs.Play.{stop_behind}
+use Rattle.rc_play_spec.specs.Legal.{IsMade, Leads}
+use Rattle.rc_play_spec.specs.Step.{start}
+use Rattle.rc_play_spec.specs.Stop.{stop_of}
+use Rattle.rc_play_spec.specs.View.{View, view_of}
+use Rattle.rc_log_spec.specs.Views.{views_from}
+use Rattle.rc_log_spec.specs.Plays.{IsPlayOf}
+use Rattle.rc_play_spec.proofs.FieldLemmas.{some_is}
 use Rattle.rc_rules.specs.declared.record.Pick.{Pick as CodePick}
 use Rattle.rc_rules.specs.Record.{pick_seen}
 use Rattle.rc_rules.specs.Machine.{StopsAtDecision, IsWhereItStops, menu_here}

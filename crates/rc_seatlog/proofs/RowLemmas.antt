@@ -1,14 +1,14 @@
 -- Loops that read parts in a row: what one more part leaves to read.
 use Rattle.std.proofs.Common.{◌≡◌, ℕ, suc, ◌+◌, ◌-◌, ◌<◌, ◌≤◌, Bool, true, false, List, [], ◌∷◌, ◌++◌, length, map, ℤ, codes, Option, Some, None, Vec, Global, refl, sym, ap, ◌∙◌, subst, append_assoc, arith}
-use Rattle.rc_model.specs.Clamp.{largest_number}
-use Rattle.rc_play_model.specs.Shape.{Shape}
-use Rattle.rc_text_model.specs.Fields.{◌>>=◌, number, integer}
-use Rattle.rc_play_model.specs.View.{Sight, with_faces}
-use Rattle.rc_log_model.specs.Shown.{sight_from}
-use Rattle.rc_log_model.specs.Lines.{sight_in}
-use Rattle.rc_log_model.proofs.LineLemmas.{sight_again}
+use Rattle.rc_base.specs.Clamp.{largest_number}
+use Rattle.rc_play_spec.specs.Shape.{Shape}
+use Rattle.rc_play_spec.specs.Fields.{◌>>=◌, number, integer}
+use Rattle.rc_play_spec.specs.View.{Sight, with_faces}
+use Rattle.rc_log_spec.specs.Shown.{sight_from}
+use Rattle.rc_log_spec.specs.Lines.{sight_in}
+use Rattle.rc_log_spec.proofs.LineLemmas.{sight_again}
 use Rattle.rc_text.specs.Finds.{Finds}
-use Rattle.rc_log_model.specs.Fields.{counts_in, integers_in, card_in, cards_in}
+use Rattle.rc_log_spec.specs.Fields.{counts_in, integers_in, card_in, cards_in}
 
 -- faces that are known
 abbrev pub known : List ℕ → List (Option ℕ)

@@ -2,13 +2,13 @@
 use Rattle.std.proofs.Common.{◌≡◌, ℕ, ◌+◌, ◌<◌, List, [], ◌∷◌, ◌++◌, length, map, take, flat_map, get_or, sym, ap, ◌∙◌, append_assoc, append-nil, arith}
 use Rattle.std.proofs.lemmas.List.{map_push, take_more, take-map, length-map, length-take}
 use Rattle.std.proofs.lemmas.List.Concat.{flat_map-append}
-use Rattle.rc_model.specs.Transcript.{line}
+use Rattle.rc_base.specs.Transcript.{line}
 use Rattle.rc_view.specs.declared.sight.Sight.{Sight}
 use Rattle.rc_view.specs.declared.view.View.{View}
 use Rattle.rc_view.specs.Seen.{sight_seen, view_seen}
-use Rattle.rc_play_model.specs.View.{Sight as PureSight, View as PureView}
-use Rattle.rc_log_model.specs.Lines.{header_text, opening_text, place_text, total_text}
-use Rattle.rc_log_model.specs.Log.{most_told, place_lines, block_lines, blocks_from, text_of, log}
+use Rattle.rc_play_spec.specs.View.{Sight as PureSight, View as PureView}
+use Rattle.rc_log_spec.specs.Lines.{header_text, opening_text, place_text, total_text}
+use Rattle.rc_log_spec.specs.Log.{most_told, place_lines, block_lines, blocks_from, text_of, log}
 
 place_lines_more : (n : ℕ) (lists : List PureSight) (sight : PureSight) (m : ℕ) → n + length lists ≡ m → place_lines n (lists ++ sight ∷ []) ≡ place_lines n lists ++ place_text m sight ∷ []
 place_lines_more n [] sight m e = let same : n ≡ m = omega (arith, e) in ap (λ k. place_text k sight ∷ []) same

@@ -1,9 +1,9 @@
 -- How reading a log ends.
 use Rattle.std.specs.Prelude.{◌≡◌, ℕ, List, Result, Ok, Err}
-use Rattle.rc_play_model.specs.Shape.{Shape}
-use Rattle.rc_play_model.specs.View.{View}
-use Rattle.rc_log_model.specs.Log.{LogText as PureText, log_text}
-use Rattle.rc_log_model.specs.Laws.{AllCount}
+use Rattle.rc_play_spec.specs.Shape.{Shape}
+use Rattle.rc_play_spec.specs.View.{View}
+use Rattle.rc_log_spec.specs.Log.{LogText as PureText, log_text}
+use Rattle.rc_log_spec.specs.Laws.{AllCount}
 use Rattle.rc_seatlog.specs.Seen.{log_seen}
 use Rattle.rc_seatlog.specs.declared.told.LogText.{LogText}
 use Rattle.rc_seatlog.specs.declared.reading.LogFail.{LogFail}

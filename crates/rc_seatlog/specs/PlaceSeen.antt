@@ -1,6 +1,6 @@
 -- Places in a log as the definitions have them.
 use Rattle.std.specs.Prelude.{map}
-use Rattle.rc_log_model.specs.Reading.{Place as PurePlace, outside, headed, between, stopped, framing, placing, ended}
+use Rattle.rc_log_spec.specs.Reading.{Place as PurePlace, outside, headed, between, stopped, framing, placing, ended}
 use Rattle.rc_view.specs.Seen.{view_seen}
 use Rattle.rc_seatlog.specs.Seen.{log_seen}
 use Rattle.rc_seatlog.specs.declared.places.Progress.{Progress}

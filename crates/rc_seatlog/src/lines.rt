@@ -1,8 +1,8 @@
 //! The lines of a log, read.
 ghost use Rattle.std.specs.Prelude.{◌≡◌, ◌≤◌, length, IfOk, map, Some, true, false};
-ghost use Rattle.rc_log_model.specs.Fields.{counts_in, integers_in, is_face, face_in, hidden_in, card_in, cards_in};
-ghost use Rattle.rc_log_model.specs.Lines.{opening_in, stop_in, made_in, direction_in, named_in, frame_in, numbers_in};
-ghost use Rattle.rc_log_model.specs.Lines.{sight_in, place_in, total_in};
+ghost use Rattle.rc_log_spec.specs.Fields.{counts_in, integers_in, is_face, face_in, hidden_in, card_in, cards_in};
+ghost use Rattle.rc_log_spec.specs.Lines.{opening_in, stop_in, made_in, direction_in, named_in, frame_in, numbers_in};
+ghost use Rattle.rc_log_spec.specs.Lines.{sight_in, place_in, total_in};
 ghost use Rattle.rc_rules.specs.Control.{frame_seen};
 ghost use Rattle.rc_view.specs.Seen.{sight_seen};
 ghost use Rattle.rc_text.specs.Finds.{Finds};

@@ -1,7 +1,7 @@
 //! Where a log stands behind some lines, with what these told.
 ghost use Rattle.std.specs.Prelude.{◌≡◌, ◌<◌, ◌≤◌, IfOk, map, length, Some, None};
-ghost use Rattle.rc_log_model.specs.Reading.{outside, headed, between, stopped, framing, placing, ended, takes};
-ghost use Rattle.rc_log_model.specs.Reading.{behind_place};
+ghost use Rattle.rc_log_spec.specs.Reading.{outside, headed, between, stopped, framing, placing, ended, takes};
+ghost use Rattle.rc_log_spec.specs.Reading.{behind_place};
 ghost use Rattle.rc_text.specs.Finds.{Finds};
 ghost use Rattle.rc_view.specs.Seen.{view_seen};
 ghost use Rattle.rc_seatlog.specs.PlaceSeen.{place_seen};

@@ -1,16 +1,16 @@
 //! Logs, read.
 ghost use Rattle.std.specs.Prelude.{◌≡◌, ℕ, List, ◌<◌, ◌≤◌, length, Ok, Err, IfOk, IfErr};
-ghost use Rattle.rc_play_model.specs.View.{View as PureView};
-ghost use Rattle.rc_log_model.specs.Log.{LogText as PureText, text_of, log_text, log, largest_word, IsLog};
-ghost use Rattle.rc_log_model.specs.Reading.{read_log};
-ghost use Rattle.rc_log_model.specs.Laws.{IsFirstFaultOf, AllCount};
+ghost use Rattle.rc_play_spec.specs.View.{View as PureView};
+ghost use Rattle.rc_log_spec.specs.Log.{LogText as PureText, text_of, log_text, log, largest_word, IsLog};
+ghost use Rattle.rc_log_spec.specs.Reading.{read_log};
+ghost use Rattle.rc_log_spec.specs.Laws.{IsFirstFaultOf, AllCount};
 ghost use Rattle.rc_seatlog.specs.Seen.{log_seen};
 ghost use Rattle.rc_seatlog.specs.Gives.{Gives, IfLogFault, IsOfViews};
 
 use crate::places::{Progress, take_bytes};
 use crate::told::LogText;
 use rc_deck::Memory;
-use rc_log_model::{faults_are_first, logs_are_read, logs_tell_views};
+use rc_log_spec::{faults_are_first, logs_are_read, logs_tell_views};
 use rc_table::Shape;
 use rc_text::fields::first_line;
 use std::alloc::Global;

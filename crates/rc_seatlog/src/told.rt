@@ -1,6 +1,6 @@
 //! Logs as values, and what of a match they tell.
 ghost use Rattle.std.specs.Prelude.{◌≡◌, take};
-ghost use Rattle.rc_log_model.specs.Log.{most_told};
+ghost use Rattle.rc_log_spec.specs.Log.{most_told};
 
 use rc_view::View;
 

@@ -1,12 +1,12 @@
 //! What a seat sees at each decision of a match, by its record.
 ghost use Rattle.std.specs.Prelude.{◌≡◌, ◌<◌, length, map, take, false, Some, IfOk, OnOk};
-ghost use Rattle.rc_play_model.specs.Step.{start};
-ghost use Rattle.rc_play_model.specs.Keyed.{dealing_of};
+ghost use Rattle.rc_play_spec.specs.Step.{start};
+ghost use Rattle.rc_play_spec.specs.Keyed.{dealing_of};
 ghost use Rattle.rc_rules.specs.Record.{pick_seen};
 ghost use Rattle.rc_view.specs.Seen.{view_seen};
-ghost use Rattle.rc_log_model.specs.Log.{most_told};
-ghost use Rattle.rc_log_model.specs.Views.{views_in};
-ghost use Rattle.rc_log_model.specs.Plays.{IsPlayOf};
+ghost use Rattle.rc_log_spec.specs.Log.{most_told};
+ghost use Rattle.rc_log_spec.specs.Views.{views_in};
+ghost use Rattle.rc_log_spec.specs.Plays.{IsPlayOf};
 
 use crate::told::first_told;
 use rc_deck::Memory;

@@ -1,14 +1,14 @@
 //! The text of a log. Every line ends with LF.
 ghost use Rattle.std.specs.Prelude.{◌≡◌, ◌<◌, ◌≤◌, ◌+◌, ◌++◌, length, map, flat_map, codes, string_bytes, All};
 ghost use Rattle.std.specs.Prelude.{IsSome, IfOk, OnOk};
-ghost use Rattle.rc_model.specs.Transcript.{line};
+ghost use Rattle.rc_base.specs.Transcript.{line};
 ghost use Rattle.rc_rules.specs.Control.{frame_seen};
 ghost use Rattle.rc_view.specs.Seen.{sight_seen, view_seen};
-ghost use Rattle.rc_play_model.specs.View.{with_faces, partly};
-ghost use Rattle.rc_log_model.specs.Shown.{site_shown, cards_shown};
-ghost use Rattle.rc_log_model.specs.Lines.{header_text, opening_text, total_text, stop_text, made_text, frame_text};
-ghost use Rattle.rc_log_model.specs.Lines.{numbers_text, card_text, place_text};
-ghost use Rattle.rc_log_model.specs.Log.{block_lines, blocks_from, place_lines, log, text_of};
+ghost use Rattle.rc_play_spec.specs.View.{with_faces, partly};
+ghost use Rattle.rc_log_spec.specs.Shown.{site_shown, cards_shown};
+ghost use Rattle.rc_log_spec.specs.Lines.{header_text, opening_text, total_text, stop_text, made_text, frame_text};
+ghost use Rattle.rc_log_spec.specs.Lines.{numbers_text, card_text, place_text};
+ghost use Rattle.rc_log_spec.specs.Log.{block_lines, blocks_from, place_lines, log, text_of};
 
 use crate::told::first_told;
 use rc_deck::Memory;

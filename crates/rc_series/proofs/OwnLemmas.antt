@@ -1,6 +1,6 @@
 -- What one worker's looks of a plan came to, whether memory was found for all of them or not.
 use Rattle.std.proofs.Common.{◌≡◌, ℕ, ◌+◌, ◌≤◌, List, [], Some, true, length, sym, ap, subst, arith}
-use Rattle.rc_play_model.specs.About.{About}
+use Rattle.rc_play_spec.specs.About.{About}
 use Rattle.rc_redraw.specs.Choosing.{AsksAll, AsksSome}
 use Rattle.rc_rules.specs.declared.plan.Plan.{Plan}
 use Rattle.rc_rules.specs.Plan.{plan_seen}
@@ -11,8 +11,8 @@ use Rattle.rc_cache.specs.Laws.{OneWorkerHits, OneWorkerLacks}
 use Rattle.rc_cache.specs.Memos.{own_counts}
 use Rattle.rc_cache.specs.Replay.{is_legal}
 use Rattle.rc_cache.specs.Sums.{Lane, idle}
-use Rattle.rc_records.specs.Series.{looks_below, looks_of}
-use Rattle.rc_records.proofs.SeriesLemmas.{all_looks}
+use Rattle.rc_series.specs.Series.{looks_below, looks_of}
+use Rattle.rc_series.proofs.SeriesLemmas.{all_looks}
 
 module _ {capacity named : ℕ} {before own closed : List LaneCall × Lane}
     (about : About) (plan : Plan) (steps steps' : ℕ)

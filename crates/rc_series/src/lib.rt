@@ -1,6 +1,15 @@
-//! The matches of a plan in order, played by one worker, and their standings.
+//! The records of a plan's matches, played in order on the flat machine by any chooser, what is told of all of them, and
+//! their standings.
 #![tactic(auto)]
 
+mod about;
+mod laws;
 mod plays;
+mod records;
+mod series;
 
+pub use about::shared_about;
+pub use laws::looks_are_rollout_picks;
 pub use plays::{own_choices, series_of};
+pub use records::{record_of, records_of};
+pub use series::{Series, series_from};

@@ -1,18 +1,20 @@
 //! Plays of all matches, one after the other, over one book.
 ghost use Rattle.std.specs.Prelude.{◌≡◌, ◌≤◌, ◌+◌, [], map, length, IfOk, OnOk};
-ghost use Rattle.rc_model.specs.Limits.{most_entries};
-ghost use Rattle.rc_play_model.specs.About.{about_of};
-ghost use Rattle.rc_play_model.specs.House.{standings_of};
-ghost use Rattle.rc_plan_model.specs.Limits.{IsWithinLimits};
+ghost use Rattle.rc_base.specs.Limits.{most_entries};
+ghost use Rattle.rc_play_spec.specs.About.{about_of};
+ghost use Rattle.rc_play_spec.specs.House.{standings_of};
+ghost use Rattle.rc_play_spec.specs.Limits.{IsWithinLimits};
 ghost use Rattle.rc_code.specs.Seen.{code_seen};
 ghost use Rattle.rc_code.specs.Stands.{StandsFor};
 ghost use Rattle.rc_rules.specs.Plan.{plan_seen, IsPlanFor};
 ghost use Rattle.rc_rules.specs.Record.{record_seen, standing_seen};
-ghost use Rattle.rc_records.specs.Series.{IsTold, looks_of, matches_of};
+ghost use Rattle.rc_series.specs.Series.{IsTold, looks_of, matches_of};
 ghost use Rattle.rc_cache.specs.Hits.{hits, cost};
 ghost use Rattle.rc_cache.specs.Sums.{idle};
 ghost use Rattle.rc_cache.specs.Fresh.{HasNames, HasParts};
 
+use crate::{Series, records_of, series_from, shared_about};
+use rc_base::Steps;
 use rc_cache::{
     Book, BookNaming, Fresh, OwnBook, one_worker_has_the_hits_of_its_looks,
     one_worker_lacking_memory_takes_no_more_steps,
@@ -20,10 +22,8 @@ use rc_cache::{
 use rc_code::Code;
 use rc_deck::Memory;
 use rc_flow::Checked;
-use rc_records::{Series, records_of, series_from, shared_about};
 use rc_rollout::{Choices, shared_code};
 use rc_rules::{About, Plan};
-use rc_steps::Steps;
 use std::alloc::Global;
 use std::marker::Brand;
 use std::sync::Arc;

@@ -1,20 +1,20 @@
 -- What is known of a form without a fault.
 use Rattle.std.proofs.Common.{◌≡◌, ◌≤◌, List, [], ◌∷◌, length, Option, Some, None, refl, sym, subst, ap, ◌∙◌}
 use Rattle.std.proofs.lemmas.Option.{same_Some}
-use Rattle.rc_model.specs.Tree.{Tree, word, list, IsOpenAtMost}
+use Rattle.rc_base.specs.Tree.{Tree, word, list, IsOpenAtMost}
 use Rattle.rc_form.specs.Form.{IsPrintable}
 use Rattle.rc_form.specs.SameForm.{IsOfAtoms}
-use Rattle.rc_sheet_model.specs.Sheet.{Sheet}
-use Rattle.rc_sheet_model.specs.Naming.{Naming}
-use Rattle.rc_sheet_model.specs.FormMentions.{names_of}
-use Rattle.rc_sheet_model.specs.Stands.{Stands}
-use Rattle.rc_sheet_model.specs.WellFormed.{IsWellFormed}
-use Rattle.rc_naming.specs.Naming.{naming_of}
-use Rattle.rc_grammar.specs.Faults.{faults, first}
-use Rattle.rc_grammar.specs.declared.grammar.Symbol.TheVariants as symbol
-use Rattle.rc_grammar.specs.declared.fault.SheetFault.{SheetFault}
-use Rattle.rc_faults.specs.SecondFaults.{second_faults, or_fault, sheet_fault}
-use Rattle.rc_reading.specs.ReadSheet.{setup_form_at, sheet_at}
+use Rattle.rc_sheet_spec.specs.Sheet.{Sheet}
+use Rattle.rc_sheet_spec.specs.Naming.{Naming}
+use Rattle.rc_sheet_spec.specs.FormMentions.{names_of}
+use Rattle.rc_sheet_spec.specs.Stands.{Stands}
+use Rattle.rc_sheet_spec.specs.WellFormed.{IsWellFormed}
+use Rattle.rc_resolve.specs.Naming.{naming_of}
+use Rattle.rc_check.specs.Faults.{faults, first}
+use Rattle.rc_check.specs.declared.grammar.Symbol.TheVariants as symbol
+use Rattle.rc_check.specs.declared.fault.SheetFault.{SheetFault}
+use Rattle.rc_check.specs.SecondFaults.{second_faults, or_fault, sheet_fault}
+use Rattle.rc_sheet.specs.ReadSheet.{setup_form_at, sheet_at}
 use Rattle.rc_sheet.proofs.Means.{means_so}
 use Rattle.rc_sheet.proofs.Fine.Common.{given_of}
 use Rattle.rc_sheet.proofs.AllFine.{all_fine}
@@ -30,7 +30,7 @@ use Rattle.rc_sheet.proofs.FewNames as few
 use Rattle.rc_sheet.proofs.SomePlayers.{some_players, some_teams}
 use Rattle.rc_sheet.proofs.FewNames.{few_attributes}
 use Rattle.rc_sheet.proofs.FewOwned.{few_locations, few_numbers}
-use Rattle.rc_model.specs.Limits.{most_attrs, most_values, most_maps, most_locations, most_numbers}
+use Rattle.rc_base.specs.Limits.{most_attrs, most_values, most_maps, most_locations, most_numbers}
 
 -- neither round finds a fault
 none_first : (xs ys : List SheetFault) → or_fault (first xs) (first ys) ≡ None → (xs ≡ []) × (ys ≡ [])

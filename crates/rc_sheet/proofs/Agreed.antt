@@ -4,10 +4,10 @@ use Rattle.std.proofs.lemmas.Bool.{and_parts, not-false}
 use Rattle.std.proofs.lemmas.List.{append-nil, append_assoc}
 use Rattle.std.proofs.lemmas.Grind.{flat_map-append}
 use Rattle.std.proofs.lemmas.Slice.Eq.{bytes_eq-Decides}
-use Rattle.rc_sheet_model.specs.Sheet.{same_class}
-use Rattle.rc_faults.specs.SecondParts.{Part}
-use Rattle.rc_faults.specs.SecondNames.{first_mention, OwnedMention}
-use Rattle.rc_faults.specs.SecondFaults.{differs_from, is_other_mention, faults_of, faults_behind}
+use Rattle.rc_sheet_spec.specs.Sheet.{same_class}
+use Rattle.rc_check.specs.SecondParts.{Part}
+use Rattle.rc_check.specs.SecondNames.{first_mention, OwnedMention}
+use Rattle.rc_check.specs.SecondFaults.{differs_from, is_other_mention, faults_of, faults_behind}
 use Rattle.rc_sheet.proofs.Among.{Among, among_either}
 use Rattle.rc_sheet.proofs.Shapes.{none_in_both}
 use Rattle.rc_sheet.proofs.Faultless.{IsFaultless, faultless}

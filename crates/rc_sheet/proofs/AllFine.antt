@@ -3,21 +3,21 @@ use Rattle.std.proofs.Common.{◌≡◌, ℕ, false, ◌||◌, cond, List, [], �
 use Rattle.std.specs.List.{All, AllByRecursion}
 use Rattle.std.proofs.lemmas.List.Elements.{All-from_recursion}
 use Rattle.std.proofs.lemmas.Bool.{not-false, or_parts}
-use Rattle.rc_model.specs.Tree.{Tree, Trees}
-use Rattle.rc_model.specs.Limits.{most_variables}
-use Rattle.rc_sheet_model.specs.Naming.{Naming}
-use Rattle.rc_sheet_model.specs.FormMentions.{attr_mentions, value_mentions, map_mentions, var_mentions}
-use Rattle.rc_grammar.specs.Faults.{faults}
-use Rattle.rc_grammar.specs.declared.grammar.Symbol.TheVariants as symbol
-use Rattle.rc_grammar.specs.declared.grammar.Rule.{Rule}
-use Rattle.rc_grammar.specs.declared.grammar.Rule.TheVariants as rule
-use Rattle.rc_faults.specs.Classes.{class_at}
-use Rattle.rc_faults.specs.declared.role.Role.{Role}
-use Rattle.rc_faults.specs.declared.role.Role.TheVariants.{UsedAttribute as used_attribute, UsedValue as used_value, UsedMap as used_map, GivenValue as given_value}
-use Rattle.rc_faults.specs.SecondParts.{Standing, Part, atom, form, parts_of, part_at, word_in}
-use Rattle.rc_faults.specs.SecondNames.{is_named, attributes_in, value_by, values_in, maps_in, mention_of, locations_in, numbers_of, OwnedMention}
-use Rattle.rc_faults.specs.SecondFaults.{is_bound, is_unbound, is_unnamed, is_no_player, is_in_stage, is_misused, is_other_side, is_other_mention, is_misplaced, is_wrong_form, is_twice, is_unknown, is_too_deep, second_faults}
-use Rattle.rc_naming.specs.Naming.{naming_of}
+use Rattle.rc_base.specs.Tree.{Tree, Trees}
+use Rattle.rc_base.specs.Limits.{most_variables}
+use Rattle.rc_sheet_spec.specs.Naming.{Naming}
+use Rattle.rc_sheet_spec.specs.FormMentions.{attr_mentions, value_mentions, map_mentions, var_mentions}
+use Rattle.rc_check.specs.Faults.{faults}
+use Rattle.rc_check.specs.declared.grammar.Symbol.TheVariants as symbol
+use Rattle.rc_check.specs.declared.grammar.Rule.{Rule}
+use Rattle.rc_check.specs.declared.grammar.Rule.TheVariants as rule
+use Rattle.rc_check.specs.Classes.{class_at}
+use Rattle.rc_check.specs.declared.role.Role.{Role}
+use Rattle.rc_check.specs.declared.role.Role.TheVariants.{UsedAttribute as used_attribute, UsedValue as used_value, UsedMap as used_map, GivenValue as given_value}
+use Rattle.rc_check.specs.SecondParts.{Standing, Part, atom, form, parts_of, part_at, word_in}
+use Rattle.rc_check.specs.SecondNames.{is_named, attributes_in, value_by, values_in, maps_in, mention_of, locations_in, numbers_of, OwnedMention}
+use Rattle.rc_check.specs.SecondFaults.{is_bound, is_unbound, is_unnamed, is_no_player, is_in_stage, is_misused, is_other_side, is_other_mention, is_misplaced, is_wrong_form, is_twice, is_unknown, is_too_deep, second_faults}
+use Rattle.rc_resolve.specs.Naming.{naming_of}
 use Rattle.rc_sheet.proofs.Fine.Common.{Given, given_of, HasNumber, IsFineAtom, IsLocMention, IsNumMention, IsFineBinder, IsFineRule, IsFineForm, IsFine}
 use Rattle.rc_sheet.proofs.Among.{Among, Within, flat_within, one_of_all, each_among}
 use Rattle.rc_sheet.proofs.Used.{is_attribute, is_value, is_map, used_in}

@@ -3,7 +3,7 @@ use Rattle.std.proofs.Common.{◌≡◌, ℕ, true, false, Bool, ◌||◌, List,
 use Rattle.std.specs.List.{AllByRecursion}
 use Rattle.std.proofs.lemmas.Bool.{or_left}
 use Rattle.std.proofs.lemmas.Slice.Eq.{bytes_eq-Decides}
-use Rattle.rc_faults.specs.SecondNames.{is_named}
+use Rattle.rc_check.specs.SecondNames.{is_named}
 
 -- it is one of the items
 abbrev pub Among : {X : Type 0} → X → List X → Type 0

@@ -3,17 +3,17 @@ use Rattle.std.proofs.Common.{◌≡◌, ℕ, ◌+◌, zero, suc, ◌==◌, Bool
 use Rattle.std.specs.List.{AllByRecursion, list_all}
 use Rattle.std.proofs.lemmas.Bool.{and_parts}
 use Rattle.std.proofs.lemmas.Option.{same_Some}
-use Rattle.rc_model.specs.Tree.{Trees}
-use Rattle.rc_grammar.specs.Grammar.{forms_of, front_of, more_of}
-use Rattle.rc_grammar.specs.Faults.{rule_of, behind_front, or_behind, place_at, count}
-use Rattle.rc_grammar.specs.declared.grammar.Symbol.{Symbol}
-use Rattle.rc_grammar.specs.declared.grammar.Symbol.TheVariants as symbol
-use Rattle.rc_grammar.specs.declared.grammar.Rule.{Rule}
-use Rattle.rc_grammar.specs.declared.grammar.Rule.TheVariants as rule
-use Rattle.rc_faults.specs.declared.role.Role.{Role}
-use Rattle.rc_faults.specs.declared.role.Role.TheVariants.{No as no_role, UsedAttribute as used_attribute, UsedValue as used_value, UsedMap as used_map, GivenValue as given_value}
-use Rattle.rc_faults.specs.SecondParts.{front_roles, role_in, Standing}
-pub use Rattle.rc_faults.proofs.Learned.{standing_at}
+use Rattle.rc_base.specs.Tree.{Trees}
+use Rattle.rc_check.specs.Grammar.{forms_of, front_of, more_of}
+use Rattle.rc_check.specs.Faults.{rule_of, behind_front, or_behind, place_at, count}
+use Rattle.rc_check.specs.declared.grammar.Symbol.{Symbol}
+use Rattle.rc_check.specs.declared.grammar.Symbol.TheVariants as symbol
+use Rattle.rc_check.specs.declared.grammar.Rule.{Rule}
+use Rattle.rc_check.specs.declared.grammar.Rule.TheVariants as rule
+use Rattle.rc_check.specs.declared.role.Role.{Role}
+use Rattle.rc_check.specs.declared.role.Role.TheVariants.{No as no_role, UsedAttribute as used_attribute, UsedValue as used_value, UsedMap as used_map, GivenValue as given_value}
+use Rattle.rc_check.specs.SecondParts.{front_roles, role_in, Standing}
+pub use Rattle.rc_check.proofs.Learned.{standing_at}
 use Rattle.rc_sheet.proofs.Shapes.{rule_holds, refuses}
 
 -- no place of the setup

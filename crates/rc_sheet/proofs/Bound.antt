@@ -5,19 +5,19 @@ use Rattle.std.specs.List.{list_all, AllByRecursion}
 use Rattle.std.proofs.lemmas.Bool.{or_from}
 use Rattle.std.proofs.lemmas.List.{append-nil}
 use Rattle.std.proofs.lemmas.Grind.{flat_map-append}
-use Rattle.rc_model.specs.Tree.{Tree, word, list, Trees, nil, cons}
-use Rattle.rc_sheet_model.specs.FormMentions.{word_of, var_words, bound_words, all_var_words, var_mentions}
-use Rattle.rc_sheet_model.specs.FormMentions.{is_binder as is_binder_head}
-use Rattle.rc_grammar.specs.Grammar.{forms_of}
-use Rattle.rc_grammar.specs.Keyword.{text_of}
-use Rattle.rc_grammar.specs.Faults.{faults, faults_at, faults_in, place_at, count, fits}
-use Rattle.rc_grammar.specs.declared.keyword.Keyword.{Keyword}
-use Rattle.rc_grammar.specs.declared.keyword.Keyword.TheVariants as keyword
-use Rattle.rc_grammar.specs.declared.grammar.Symbol.{Symbol}
-use Rattle.rc_grammar.specs.declared.grammar.Symbol.TheVariants as symbol
-use Rattle.rc_grammar.specs.declared.grammar.Rule.{Rule}
-use Rattle.rc_grammar.specs.declared.grammar.Rule.TheVariants as rule
-use Rattle.rc_faults.specs.SecondParts.{Standing, Part, atom, form, parts_at, parts_in, parts_of, with_form, standing_in, standing_alone, is_binder, word_in}
+use Rattle.rc_base.specs.Tree.{Tree, word, list, Trees, nil, cons}
+use Rattle.rc_sheet_spec.specs.FormMentions.{word_of, var_words, bound_words, all_var_words, var_mentions}
+use Rattle.rc_sheet_spec.specs.FormMentions.{is_binder as is_binder_head}
+use Rattle.rc_check.specs.Grammar.{forms_of}
+use Rattle.rc_check.specs.Keyword.{text_of}
+use Rattle.rc_check.specs.Faults.{faults, faults_at, faults_in, place_at, count, fits}
+use Rattle.rc_check.specs.declared.keyword.Keyword.{Keyword}
+use Rattle.rc_check.specs.declared.keyword.Keyword.TheVariants as keyword
+use Rattle.rc_check.specs.declared.grammar.Symbol.{Symbol}
+use Rattle.rc_check.specs.declared.grammar.Symbol.TheVariants as symbol
+use Rattle.rc_check.specs.declared.grammar.Rule.{Rule}
+use Rattle.rc_check.specs.declared.grammar.Rule.TheVariants as rule
+use Rattle.rc_check.specs.SecondParts.{Standing, Part, atom, form, parts_at, parts_in, parts_of, with_form, standing_in, standing_alone, is_binder, word_in}
 use Rattle.rc_sheet.proofs.Among.{Among, Within, among_left, among_right, among_either, both_within}
 use Rattle.rc_sheet.proofs.Shapes.{none_in_both, shape_of, place_within, refuses, refuted, atom_only, fixed_only}
 use Rattle.rc_sheet.proofs.Bodies.{is_body_rule, IsBody, body_rule, body_inner, standing_at, all_refused}

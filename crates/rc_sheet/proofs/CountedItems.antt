@@ -1,10 +1,10 @@
 -- The items that are read have as many stages and choices as have begun behind them.
 use Rattle.std.proofs.Common.{◌≡◌, ℕ, ◌+◌, List, [], ◌∷◌, length, arith}
-use Rattle.rc_model.specs.Tree.{Trees}
-use Rattle.rc_sheet_model.specs.Sheet.{SheetItems}
-use Rattle.rc_sheet_model.specs.Mentions.{stages_in, sites_in}
-use Rattle.rc_sheet_model.specs.Naming.{Naming}
-use Rattle.rc_reading.specs.ReadItems.{Begun, items_at}
+use Rattle.rc_base.specs.Tree.{Trees}
+use Rattle.rc_sheet_spec.specs.Sheet.{SheetItems}
+use Rattle.rc_sheet_spec.specs.Mentions.{stages_in, sites_in}
+use Rattle.rc_sheet_spec.specs.Naming.{Naming}
+use Rattle.rc_sheet.specs.ReadItems.{Begun, items_at}
 use Rattle.rc_sheet.proofs.Means.{Means, weaker}
 use Rattle.rc_sheet.proofs.Mentioned.Stages.{IsRun}
 use Rattle.rc_sheet.proofs.Mentioned.Stages.{items_count as items_run}

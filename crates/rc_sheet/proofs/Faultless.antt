@@ -1,10 +1,10 @@
 -- What it says of a part that the second round finds no fault with it.
 use Rattle.std.proofs.Common.{◌≡◌, Bool, true, false, List, [], ◌∷◌, ◌++◌, refl}
 use Rattle.std.specs.List.{AllByRecursion}
-use Rattle.rc_faults.specs.SecondParts.{Part}
-use Rattle.rc_faults.specs.SecondFaults.{is_twice, is_unknown, is_wrong_kind, is_too_many, lacks_cards, fault_where, faults_of, faults_behind}
-use Rattle.rc_grammar.specs.declared.fault.SheetKind.{SheetKind}
-use Rattle.rc_grammar.specs.declared.fault.SheetKind.TheVariants.{Twice, Unknown, WrongKind, TooMany, NoCards}
+use Rattle.rc_check.specs.SecondParts.{Part}
+use Rattle.rc_check.specs.SecondFaults.{is_twice, is_unknown, is_wrong_kind, is_too_many, lacks_cards, fault_where, faults_of, faults_behind}
+use Rattle.rc_check.specs.declared.fault.SheetKind.{SheetKind}
+use Rattle.rc_check.specs.declared.fault.SheetKind.TheVariants.{Twice, Unknown, WrongKind, TooMany, NoCards}
 use Rattle.rc_sheet.proofs.Shapes.{none_in_both}
 
 -- none of the five tests holds, behind these earlier parts

@@ -7,18 +7,18 @@ use Rattle.std.proofs.lemmas.List.{append-nil}
 use Rattle.std.proofs.lemmas.Grind.{flat_map-append}
 use Rattle.std.proofs.lemmas.Map.Made.{length-le_from_is_member}
 use Rattle.std.proofs.lemmas.Slice.Eq.{bytes_eq-Decides}
-use Rattle.rc_model.specs.Tree.{Tree}
-use Rattle.rc_model.specs.Limits.{most_attrs, most_values, most_maps}
-use Rattle.rc_model.specs.Words.{different, different_from}
-use Rattle.rc_sheet_model.specs.FormMentions.{attr_mentions, value_mentions, map_mentions, names_of}
-use Rattle.rc_grammar.specs.Faults.{faults}
-use Rattle.rc_grammar.specs.declared.grammar.Symbol.TheVariants as symbol
-use Rattle.rc_grammar.specs.declared.grammar.Rule.TheVariants as rule
-use Rattle.rc_faults.specs.declared.role.Role.{Role}
-use Rattle.rc_faults.specs.declared.role.Role.TheVariants.{UsedAttribute as used_attribute, UsedValue as used_value, UsedMap as used_map, GivenValue as given_value}
-use Rattle.rc_faults.specs.SecondParts.{Part, atom, form, parts_of}
-use Rattle.rc_faults.specs.SecondNames.{is_named, attributes_in, value_by, values_in, maps_in, different_count}
-use Rattle.rc_faults.specs.SecondFaults.{attribute_count, value_count, map_count, passes, atom_counts, is_unbound, is_unnamed, is_no_player, second_faults}
+use Rattle.rc_base.specs.Tree.{Tree}
+use Rattle.rc_base.specs.Limits.{most_attrs, most_values, most_maps}
+use Rattle.rc_base.specs.Words.{different, different_from}
+use Rattle.rc_sheet_spec.specs.FormMentions.{attr_mentions, value_mentions, map_mentions, names_of}
+use Rattle.rc_check.specs.Faults.{faults}
+use Rattle.rc_check.specs.declared.grammar.Symbol.TheVariants as symbol
+use Rattle.rc_check.specs.declared.grammar.Rule.TheVariants as rule
+use Rattle.rc_check.specs.declared.role.Role.{Role}
+use Rattle.rc_check.specs.declared.role.Role.TheVariants.{UsedAttribute as used_attribute, UsedValue as used_value, UsedMap as used_map, GivenValue as given_value}
+use Rattle.rc_check.specs.SecondParts.{Part, atom, form, parts_of}
+use Rattle.rc_check.specs.SecondNames.{is_named, attributes_in, value_by, values_in, maps_in, different_count}
+use Rattle.rc_check.specs.SecondFaults.{attribute_count, value_count, map_count, passes, atom_counts, is_unbound, is_unnamed, is_no_player, second_faults}
 use Rattle.rc_sheet.proofs.Among.{Among, Within, among_either, among_named, named_among, one_of_all}
 use Rattle.rc_sheet.proofs.Used.{is_attribute, is_value, is_map, used_in}
 use Rattle.rc_sheet.proofs.Whole.{gives_mentions}

@@ -4,19 +4,19 @@ use Rattle.std.specs.Prelude.{sum_by}
 use Rattle.std.proofs.lemmas.List.{append-nil, length-map}
 use Rattle.std.proofs.lemmas.List.Sums.{sum_by-cons}
 use Rattle.std.proofs.lemmas.Grind.{flat_map-append}
-use Rattle.rc_model.specs.Tree.{Tree}
-use Rattle.rc_sheet_model.specs.Sheet.{Class, game_class, player_class, team_class}
-use Rattle.rc_model.specs.Limits.{most_locations, most_numbers}
-use Rattle.rc_model.specs.Words.{different}
-use Rattle.rc_sheet_model.specs.FormMentions.{names_of}
-use Rattle.rc_grammar.specs.Faults.{faults}
-use Rattle.rc_grammar.specs.declared.grammar.Symbol.TheVariants as symbol
-use Rattle.rc_grammar.specs.declared.grammar.Rule.TheVariants as rule
-use Rattle.rc_sheet_model.specs.WellFormed.{owner_count_by}
-use Rattle.rc_faults.specs.SecondParts.{Part, atom, form, parts_of}
-use Rattle.rc_faults.specs.SecondNames.{player_count, team_count, locations_in, numbers_of, firsts_from, owned, OwnedMention}
-use Rattle.rc_faults.specs.SecondFaults.{location_count, number_count, second_faults}
-use Rattle.rc_naming.specs.Mentions.{all_locations}
+use Rattle.rc_base.specs.Tree.{Tree}
+use Rattle.rc_sheet_spec.specs.Sheet.{Class, game_class, player_class, team_class}
+use Rattle.rc_base.specs.Limits.{most_locations, most_numbers}
+use Rattle.rc_base.specs.Words.{different}
+use Rattle.rc_sheet_spec.specs.FormMentions.{names_of}
+use Rattle.rc_check.specs.Faults.{faults}
+use Rattle.rc_check.specs.declared.grammar.Symbol.TheVariants as symbol
+use Rattle.rc_check.specs.declared.grammar.Rule.TheVariants as rule
+use Rattle.rc_sheet_spec.specs.WellFormed.{owner_count_by}
+use Rattle.rc_check.specs.SecondParts.{Part, atom, form, parts_of}
+use Rattle.rc_check.specs.SecondNames.{player_count, team_count, locations_in, numbers_of, firsts_from, owned, OwnedMention}
+use Rattle.rc_check.specs.SecondFaults.{location_count, number_count, second_faults}
+use Rattle.rc_resolve.specs.Mentions.{all_locations}
 use Rattle.rc_sheet.proofs.Among.{Among, Within, among_map, map_among}
 use Rattle.rc_sheet.proofs.Whole.{gives_mentions}
 use Rattle.rc_sheet.proofs.Found.Names.{name_of, names_different, loc_names_are, num_names_are}

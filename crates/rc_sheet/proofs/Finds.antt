@@ -1,6 +1,6 @@
 -- What a reading gives, where it gives something.
 use Rattle.std.proofs.Common.{◌≡◌, Bool, true, false, cond, Option, Some, None, option_map, refl, sym, subst}
-use Rattle.rc_reading.specs.ReadNames.{◌>>=◌, both, ensure}
+use Rattle.rc_sheet.specs.ReadNames.{◌>>=◌, both, ensure}
 use Rattle.rc_sheet.proofs.Means.{Means}
 
 -- something was read, and P holds of it

@@ -3,15 +3,15 @@ use Rattle.std.proofs.Common.{◌≡◌, ℕ, ◌+◌, ◌≤◌, zero, suc, Boo
 use Rattle.std.specs.List.{list_any}
 use Rattle.std.proofs.lemmas.List.{append-nil}
 use Rattle.std.proofs.lemmas.Grind.{flat_map-append}
-use Rattle.rc_model.specs.Tree.{Tree, word, list, Trees, nil, cons}
-use Rattle.rc_sheet_model.specs.FormMentions.{gathered, all_gathered}
-use Rattle.rc_grammar.specs.Faults.{faults_at, faults_in, place_at, count, fits}
-use Rattle.rc_grammar.specs.declared.grammar.Symbol.{Symbol}
-use Rattle.rc_grammar.specs.declared.grammar.Rule.{Rule}
-use Rattle.rc_grammar.specs.declared.grammar.Rule.TheVariants as rule
-use Rattle.rc_faults.specs.declared.role.Role.{Role}
-use Rattle.rc_faults.specs.declared.role.Role.TheVariants.{No as no_role, GivenValue as given_value}
-use Rattle.rc_faults.specs.SecondParts.{front_roles, role_in, Standing, Part, atom, form, parts_at, parts_in, with_form, standing_in}
+use Rattle.rc_base.specs.Tree.{Tree, word, list, Trees, nil, cons}
+use Rattle.rc_sheet_spec.specs.FormMentions.{gathered, all_gathered}
+use Rattle.rc_check.specs.Faults.{faults_at, faults_in, place_at, count, fits}
+use Rattle.rc_check.specs.declared.grammar.Symbol.{Symbol}
+use Rattle.rc_check.specs.declared.grammar.Rule.{Rule}
+use Rattle.rc_check.specs.declared.grammar.Rule.TheVariants as rule
+use Rattle.rc_check.specs.declared.role.Role.{Role}
+use Rattle.rc_check.specs.declared.role.Role.TheVariants.{No as no_role, GivenValue as given_value}
+use Rattle.rc_check.specs.SecondParts.{front_roles, role_in, Standing, Part, atom, form, parts_at, parts_in, with_form, standing_in}
 use Rattle.rc_sheet.proofs.Shapes.{none_in_both, HasShape, shape_of, place_within}
 use Rattle.rc_sheet.proofs.Bodies.{IsBody, standing_at, body_inner}
 

@@ -1,15 +1,15 @@
 -- What a form of good parts says, by how many parts it has, where R holds of each part.
 use Rattle.std.proofs.Common.{◌≡◌, ℕ, zero, suc, ◌+◌, ◌≤◌, ◌==◌, nat_lt, List, [], ◌∷◌, ◌++◌, Option, Some, sym, subst, ap, ◌∙◌, arith}
 use Rattle.std.specs.List.{AllByRecursion}
-use Rattle.rc_model.specs.Tree.{Tree, list, Trees, nil, cons}
-use Rattle.rc_sheet_model.specs.Naming.{Naming}
-use Rattle.rc_faults.specs.SecondParts.{Standing, standing_in}
-use Rattle.rc_faults.specs.declared.role.Role.TheVariants.{No as no_role}
-use Rattle.rc_grammar.specs.Grammar.{forms_of}
-use Rattle.rc_grammar.specs.Faults.{rule_of, count, fits}
-use Rattle.rc_grammar.specs.declared.grammar.Symbol.{Symbol}
-use Rattle.rc_grammar.specs.declared.grammar.Rule.{Rule}
-use Rattle.rc_reading.specs.ReadNames.{◌>>=◌, rule_at}
+use Rattle.rc_base.specs.Tree.{Tree, list, Trees, nil, cons}
+use Rattle.rc_sheet_spec.specs.Naming.{Naming}
+use Rattle.rc_check.specs.SecondParts.{Standing, standing_in}
+use Rattle.rc_check.specs.declared.role.Role.TheVariants.{No as no_role}
+use Rattle.rc_check.specs.Grammar.{forms_of}
+use Rattle.rc_check.specs.Faults.{rule_of, count, fits}
+use Rattle.rc_check.specs.declared.grammar.Symbol.{Symbol}
+use Rattle.rc_check.specs.declared.grammar.Rule.{Rule}
+use Rattle.rc_sheet.specs.ReadNames.{◌>>=◌, rule_at}
 use Rattle.rc_sheet.proofs.Fine.Common.{Given}
 use Rattle.rc_sheet.proofs.Finds.{Finds}
 use Rattle.rc_sheet.proofs.GoodParts.{Each, one_and_more, two_and_more, three_and_more, IsGood, GoodAt, AreGood, IsGoodForm, finds_by}

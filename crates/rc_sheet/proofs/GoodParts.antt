@@ -2,15 +2,15 @@
 -- a form each of whose parts does.
 use Rattle.std.proofs.Common.{◌≡◌, ℕ, ◌+◌, ◌≤◌, Bool, true, false, cond, List, [], Option, Some, None, option_map, nat_lt, refl, sym, subst, ap, ◌∙◌, arith, ltb-true}
 use Rattle.std.specs.List.{AllByRecursion}
-use Rattle.rc_model.specs.Tree.{Tree, word, list, Trees, nil, cons}
+use Rattle.rc_base.specs.Tree.{Tree, word, list, Trees, nil, cons}
 use Rattle.rc_deck.proofs.EachLemmas.{parts_of_append}
-use Rattle.rc_sheet_model.specs.Naming.{Naming}
-use Rattle.rc_faults.specs.SecondParts.{Standing, parts_at, parts_in, standing_in, with_form}
-use Rattle.rc_grammar.specs.Grammar.{forms_of}
-use Rattle.rc_grammar.specs.Faults.{faults_at, faults_in, told_faults, lacks_players, rule_of, place_at, count, fits}
-use Rattle.rc_grammar.specs.declared.grammar.Symbol.{Symbol}
-use Rattle.rc_grammar.specs.declared.grammar.Rule.{Rule}
-use Rattle.rc_reading.specs.ReadNames.{◌>>=◌, sized, rule_at}
+use Rattle.rc_sheet_spec.specs.Naming.{Naming}
+use Rattle.rc_check.specs.SecondParts.{Standing, parts_at, parts_in, standing_in, with_form}
+use Rattle.rc_check.specs.Grammar.{forms_of}
+use Rattle.rc_check.specs.Faults.{faults_at, faults_in, told_faults, lacks_players, rule_of, place_at, count, fits}
+use Rattle.rc_check.specs.declared.grammar.Symbol.{Symbol}
+use Rattle.rc_check.specs.declared.grammar.Rule.{Rule}
+use Rattle.rc_sheet.specs.ReadNames.{◌>>=◌, sized, rule_at}
 use Rattle.rc_sheet.proofs.Fine.Common.{Given, IsFine, IsFineForm}
 use Rattle.rc_sheet.proofs.Finds.{Finds}
 use Rattle.rc_sheet.proofs.Shapes.{none_in_both, inner_faults, rule_holds}

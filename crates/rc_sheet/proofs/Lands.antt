@@ -2,16 +2,16 @@
 use Rattle.std.proofs.Common.{◌≡◌, ℕ, Bool, true, false, not, ◌&&◌, List, [], ◌∷◌, Some, flat_map, refl, ap}
 use Rattle.std.specs.List.{list_any, list_all}
 use Rattle.std.proofs.lemmas.Bool.{cond-false, not-true}
-use Rattle.rc_model.specs.Tree.{Tree, Trees}
-use Rattle.rc_grammar.specs.Grammar.{forms_of}
-use Rattle.rc_grammar.specs.declared.grammar.Symbol.{Symbol}
-use Rattle.rc_grammar.specs.declared.grammar.Symbol.TheVariants as symbol
-use Rattle.rc_grammar.specs.declared.grammar.Rule.{Rule}
-use Rattle.rc_grammar.specs.declared.grammar.Rule.TheVariants as rule
-use Rattle.rc_faults.specs.declared.role.Role.{Role}
-use Rattle.rc_faults.specs.declared.role.Role.TheVariants.{GivenValue as given_value}
-use Rattle.rc_faults.specs.SecondParts.{front_roles, role_in, Standing, form, parts_at}
-use Rattle.rc_faults.specs.SecondNames.{attributes_in, value_by, values_in, maps_in, locations_in, numbers_of}
+use Rattle.rc_base.specs.Tree.{Tree, Trees}
+use Rattle.rc_check.specs.Grammar.{forms_of}
+use Rattle.rc_check.specs.declared.grammar.Symbol.{Symbol}
+use Rattle.rc_check.specs.declared.grammar.Symbol.TheVariants as symbol
+use Rattle.rc_check.specs.declared.grammar.Rule.{Rule}
+use Rattle.rc_check.specs.declared.grammar.Rule.TheVariants as rule
+use Rattle.rc_check.specs.declared.role.Role.{Role}
+use Rattle.rc_check.specs.declared.role.Role.TheVariants.{GivenValue as given_value}
+use Rattle.rc_check.specs.SecondParts.{front_roles, role_in, Standing, form, parts_at}
+use Rattle.rc_check.specs.SecondNames.{attributes_in, value_by, values_in, maps_in, locations_in, numbers_of}
 use Rattle.rc_sheet.proofs.Bodies.{is_body, is_body_rule, is_used}
 use Rattle.rc_sheet.proofs.Gathered.{quiet_at, quiet_role}
 use Rattle.rc_sheet.proofs.Used.{used_in}

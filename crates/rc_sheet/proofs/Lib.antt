@@ -1,3 +1,18 @@
+mod AlternativeLemmas
+mod EffectLemmas
+mod Forms
+mod InTurn
+mod ItemLemmas
+mod Lists
+mod MadeLemmas
+mod Parts
+mod Numbers
+mod Places
+mod PlainLemmas
+pub mod Faces
+mod Sheets
+mod Readings
+mod Sizes
 pub mod Accepted
 pub mod Means
 pub mod Among
@@ -40,3 +55,10 @@ mod WellFormed
 mod ShapedParts
 mod PlainWords
 mod SomePlayers
+pub mod One
+pub mod Unplaced
+pub mod Moved
+mod LineFeeds
+pub mod PrintedAgain
+pub mod Sound
+pub mod Shaped

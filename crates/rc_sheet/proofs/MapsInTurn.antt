@@ -6,18 +6,18 @@ use Rattle.std.proofs.lemmas.List.{append-nil, length-append}
 use Rattle.std.proofs.lemmas.List.Folds.{list_any-append}
 use Rattle.std.proofs.lemmas.Grind.{flat_map-append}
 use Rattle.std.proofs.lemmas.Slice.Eq.{bytes_eq-Decides}
-use Rattle.rc_model.specs.Tree.{Tree, list, Trees, nil, cons}
-use Rattle.rc_model.specs.Words.{different, different_from}
-use Rattle.rc_sheet_model.specs.StandsSetup.{begins_with, lines_with}
-use Rattle.rc_sheet_model.specs.FormMentions.{all_gathered, map_word, points_map, map_mentions}
-use Rattle.rc_grammar.specs.Faults.{faults, rule_of}
-use Rattle.rc_grammar.specs.declared.grammar.Symbol.TheVariants as symbol
-use Rattle.rc_grammar.specs.declared.grammar.Rule.{Rule}
-use Rattle.rc_grammar.specs.declared.grammar.Rule.TheVariants as rule
-use Rattle.rc_faults.specs.SecondParts.{Standing, Part, atom, form, parts_at, parts_in, parts_of, with_form, word_in}
-use Rattle.rc_faults.specs.SecondNames.{is_named, maps_in}
-use Rattle.rc_faults.specs.SecondFaults.{faults_of, faults_behind, second_faults}
-use Rattle.rc_naming.specs.Naming.{naming_of}
+use Rattle.rc_base.specs.Tree.{Tree, list, Trees, nil, cons}
+use Rattle.rc_base.specs.Words.{different, different_from}
+use Rattle.rc_sheet_spec.specs.StandsSetup.{begins_with, lines_with}
+use Rattle.rc_sheet_spec.specs.FormMentions.{all_gathered, map_word, points_map, map_mentions}
+use Rattle.rc_check.specs.Faults.{faults, rule_of}
+use Rattle.rc_check.specs.declared.grammar.Symbol.TheVariants as symbol
+use Rattle.rc_check.specs.declared.grammar.Rule.{Rule}
+use Rattle.rc_check.specs.declared.grammar.Rule.TheVariants as rule
+use Rattle.rc_check.specs.SecondParts.{Standing, Part, atom, form, parts_at, parts_in, parts_of, with_form, word_in}
+use Rattle.rc_check.specs.SecondNames.{is_named, maps_in}
+use Rattle.rc_check.specs.SecondFaults.{faults_of, faults_behind, second_faults}
+use Rattle.rc_resolve.specs.Naming.{naming_of}
 use Rattle.rc_sheet.proofs.Shapes.{none_in_both}
 use Rattle.rc_sheet.proofs.Faultless.{IsFaultless, faultless}
 use Rattle.rc_sheet.proofs.Lines.{in_lines}

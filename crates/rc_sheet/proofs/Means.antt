@@ -2,10 +2,10 @@
 use Rattle.std.proofs.Common.{◌≡◌, ℕ, Bool, true, false, cond, List, [], ◌∷◌, get_or, Option, Some, None, IfSome, slice_get, position, find, option_map, refl, subst}
 use Rattle.std.proofs.lemmas.Option.{slice_get-get_or}
 use Rattle.std.proofs.lemmas.List.Quantifiers.{position-Some}
-use Rattle.rc_grammar.specs.Faults.{fits}
-use Rattle.rc_grammar.specs.declared.grammar.Rule.{Rule}
-use Rattle.rc_setup.specs.Reading.{both as both_read}
-use Rattle.rc_reading.specs.ReadNames.{◌>>=◌, both, ensure, sized}
+use Rattle.rc_check.specs.Faults.{fits}
+use Rattle.rc_check.specs.declared.grammar.Rule.{Rule}
+use Rattle.rc_resolve.specs.Reading.{both as both_read}
+use Rattle.rc_sheet.specs.ReadNames.{◌>>=◌, both, ensure, sized}
 
 -- P holds of what was read
 pub record Means {A : Type 0} (found : Option A) (P : A → Type 0) : Type 0 where

@@ -3,23 +3,23 @@ use Rattle.std.proofs.Common.{◌≡◌, ℕ, ◌+◌, ◌≤◌, Bool, true, fa
 use Rattle.std.specs.Prelude.{sum_by, if◌then◌else◌}
 use Rattle.std.proofs.lemmas.List.Sums.{sum_by-cons}
 use Rattle.std.proofs.lemmas.List.{append-nil}
-use Rattle.rc_model.specs.Tree.{Tree, Trees, nil, cons}
-use Rattle.rc_sheet_model.specs.StandsSetup.{begins_with, lines_with}
-use Rattle.rc_sheet_model.specs.Sheet.{Class, LocName, NumName, Sheet}
-use Rattle.rc_model.specs.Limits.{most_locations, most_numbers}
-use Rattle.rc_sheet_model.specs.Naming.{sheet_naming}
-use Rattle.rc_sheet_model.specs.FormMentions.{all_gathered}
-use Rattle.rc_sheet_model.specs.WellFormed.{owner_count}
-use Rattle.rc_grammar.specs.Faults.{faults}
-use Rattle.rc_grammar.specs.declared.grammar.Symbol.TheVariants as symbol
-use Rattle.rc_sheet_model.specs.WellFormed.{owner_count_by}
-use Rattle.rc_faults.specs.SecondParts.{parts_of}
-use Rattle.rc_faults.specs.SecondNames.{player_count, team_count, locations_in, numbers_of, owned, OwnedMention}
-use Rattle.rc_faults.specs.SecondFaults.{location_count, number_count, second_faults}
-use Rattle.rc_naming.specs.Mentions.{loc_mention, deck_location, all_locations, all_numbers}
-use Rattle.rc_naming.specs.Naming.{kind_by, firsts, loc_names, num_names}
-use Rattle.rc_naming.specs.Naming.{naming_of}
-use Rattle.rc_reading.specs.ReadSheet.{sheet_at}
+use Rattle.rc_base.specs.Tree.{Tree, Trees, nil, cons}
+use Rattle.rc_sheet_spec.specs.StandsSetup.{begins_with, lines_with}
+use Rattle.rc_sheet_spec.specs.Sheet.{Class, LocName, NumName, Sheet}
+use Rattle.rc_base.specs.Limits.{most_locations, most_numbers}
+use Rattle.rc_sheet_spec.specs.Naming.{sheet_naming}
+use Rattle.rc_sheet_spec.specs.FormMentions.{all_gathered}
+use Rattle.rc_sheet_spec.specs.WellFormed.{owner_count}
+use Rattle.rc_check.specs.Faults.{faults}
+use Rattle.rc_check.specs.declared.grammar.Symbol.TheVariants as symbol
+use Rattle.rc_sheet_spec.specs.WellFormed.{owner_count_by}
+use Rattle.rc_check.specs.SecondParts.{parts_of}
+use Rattle.rc_check.specs.SecondNames.{player_count, team_count, locations_in, numbers_of, owned, OwnedMention}
+use Rattle.rc_check.specs.SecondFaults.{location_count, number_count, second_faults}
+use Rattle.rc_resolve.specs.Mentions.{loc_mention, deck_location, all_locations, all_numbers}
+use Rattle.rc_resolve.specs.Naming.{kind_by, firsts, loc_names, num_names}
+use Rattle.rc_resolve.specs.Naming.{naming_of}
+use Rattle.rc_sheet.specs.ReadSheet.{sheet_at}
 use Rattle.rc_sheet.proofs.Lines.{in_lines}
 use Rattle.rc_sheet.proofs.Whole.{sheet_only, locations_give, gives_mentions}
 use Rattle.rc_sheet.proofs.FewOwned.{locations_watched, numbers_watched}

@@ -2,26 +2,26 @@
 use Rattle.std.proofs.Common.{◌≡◌, ℕ, ◌+◌, ◌<◌, ◌≤◌, Bool, true, false, not, ◌&&◌, cond, List, [], ◌∷◌, ◌++◌, ◌⊎◌, inl, inr, ⊎_elim, map, flat_map, Some, None, refl, sym, subst, ap, ap₂, ◌∙◌, arith, eqb-true}
 use Rattle.std.specs.List.{list_all, AllByRecursion}
 use Rattle.std.proofs.lemmas.Bool.{both_ways}
-use Rattle.rc_model.specs.Tree.{Tree, word, list, Trees, nil, cons}
-use Rattle.rc_sheet_model.specs.Sheet.{Sheet}
-use Rattle.rc_model.specs.Words.{is_variable, different}
-use Rattle.rc_sheet_model.specs.FormMentions.{word_of, var_words, bound_words, all_var_words, var_mentions, attr_mentions, value_mentions, map_mentions, loc_mentions, num_mentions}
-use Rattle.rc_sheet_model.specs.FormMentions.{is_binder as is_binder_head}
-use Rattle.rc_sheet_model.specs.WellFormed.{is_atom, is_plain_word, is_variable_word, HasWords}
-use Rattle.rc_grammar.specs.Faults.{atom_kind, unless, faults, faults_at, faults_in, place_at, count, fits}
-use Rattle.rc_grammar.specs.declared.fault.SheetKind.TheVariants.{Shape}
-use Rattle.rc_grammar.specs.declared.grammar.Symbol.{Symbol}
-use Rattle.rc_grammar.specs.declared.grammar.Symbol.TheVariants as symbol
-use Rattle.rc_grammar.specs.declared.grammar.Rule.{Rule}
-use Rattle.rc_grammar.specs.declared.grammar.Rule.TheVariants as rule
-use Rattle.rc_faults.specs.declared.role.Role.{Role}
-use Rattle.rc_faults.specs.declared.role.Role.TheVariants.{GivenValue as given_value}
-use Rattle.rc_faults.specs.SecondParts.{Standing, Part, atom, form, part_at, bytes_of, word_in, parts_of, is_binder, standing_alone}
-use Rattle.rc_faults.specs.SecondNames.{attributes_in, value_by, values_in, maps_in, locations_in, numbers_of, OwnedMention}
-use Rattle.rc_faults.specs.SecondFaults.{second_faults}
-use Rattle.rc_naming.specs.Naming.{naming_of}
+use Rattle.rc_base.specs.Tree.{Tree, word, list, Trees, nil, cons}
+use Rattle.rc_sheet_spec.specs.Sheet.{Sheet}
+use Rattle.rc_base.specs.Words.{is_variable, different}
+use Rattle.rc_sheet_spec.specs.FormMentions.{word_of, var_words, bound_words, all_var_words, var_mentions, attr_mentions, value_mentions, map_mentions, loc_mentions, num_mentions}
+use Rattle.rc_sheet_spec.specs.FormMentions.{is_binder as is_binder_head}
+use Rattle.rc_sheet_spec.specs.WellFormed.{is_atom, is_plain_word, is_variable_word, HasWords}
+use Rattle.rc_check.specs.Faults.{atom_kind, unless, faults, faults_at, faults_in, place_at, count, fits}
+use Rattle.rc_check.specs.declared.fault.SheetKind.TheVariants.{Shape}
+use Rattle.rc_check.specs.declared.grammar.Symbol.{Symbol}
+use Rattle.rc_check.specs.declared.grammar.Symbol.TheVariants as symbol
+use Rattle.rc_check.specs.declared.grammar.Rule.{Rule}
+use Rattle.rc_check.specs.declared.grammar.Rule.TheVariants as rule
+use Rattle.rc_check.specs.declared.role.Role.{Role}
+use Rattle.rc_check.specs.declared.role.Role.TheVariants.{GivenValue as given_value}
+use Rattle.rc_check.specs.SecondParts.{Standing, Part, atom, form, part_at, bytes_of, word_in, parts_of, is_binder, standing_alone}
+use Rattle.rc_check.specs.SecondNames.{attributes_in, value_by, values_in, maps_in, locations_in, numbers_of, OwnedMention}
+use Rattle.rc_check.specs.SecondFaults.{second_faults}
+use Rattle.rc_resolve.specs.Naming.{naming_of}
 use Rattle.rc_form.specs.SameForm.{IsOfAtoms, AreOfAtoms}
-use Rattle.rc_reading.specs.ReadSheet.{sheet_at}
+use Rattle.rc_sheet.specs.ReadSheet.{sheet_at}
 use Rattle.rc_sheet.proofs.Among.{Among, among_left, among_right, among_either, one_of_all, map_among}
 use Rattle.rc_sheet.proofs.Shapes.{none_in_both, shape_of, place_within, atom_only, taken}
 use Rattle.rc_sheet.proofs.Bodies.{is_body_rule, IsBody, body_rule, body_inner, standing_at}

@@ -3,21 +3,21 @@ use Rattle.std.proofs.Common.{◌≡◌, ℕ, ◌-◌, ◌≤◌, suc, true, ◌
 use Rattle.std.specs.Prelude.{nat_abs, unwrap_or}
 use Rattle.std.proofs.lemmas.Bool.{leb-true, and_parts}
 use Rattle.std.proofs.lemmas.List.{append-nil, map-append}
-use Rattle.rc_model.specs.Tree.{Tree, word, list, Trees, nil, cons}
-use Rattle.rc_model.specs.Literal.{integer}
-use Rattle.rc_sheet_model.specs.Sheet.{Teams, Class, game_class, player_class, team_class, Sheet}
-use Rattle.rc_model.specs.Limits.{most_players}
-use Rattle.rc_sheet_model.specs.Naming.{Naming}
-use Rattle.rc_sheet_model.specs.WellFormed.{team_count, owner_count}
-use Rattle.rc_grammar.specs.Faults.{count}
-use Rattle.rc_grammar.specs.declared.grammar.Rule.{Rule}
-use Rattle.rc_grammar.specs.declared.grammar.Rule.TheVariants as rule
-use Rattle.rc_sheet_model.specs.WellFormed.{owner_count_by}
-use Rattle.rc_faults.specs.SecondParts.{Standing, Part, form, parts_of}
-use Rattle.rc_faults.specs.SecondNames.{number_at, players_in, player_count, teams_in, teams_by, team_count as team_count_by}
-use Rattle.rc_reading.specs.ReadNames.{ensure}
-use Rattle.rc_reading.specs.ReadSetup.{Lines, within, count_at, team_at, teams_at, deck_at, points_at, players_line, teams_line, deck_line, points_line, line_rule}
-use Rattle.rc_reading.specs.ReadSheet.{sheet_at}
+use Rattle.rc_base.specs.Tree.{Tree, word, list, Trees, nil, cons}
+use Rattle.rc_base.specs.Literal.{integer}
+use Rattle.rc_sheet_spec.specs.Sheet.{Teams, Class, game_class, player_class, team_class, Sheet}
+use Rattle.rc_base.specs.Limits.{most_players}
+use Rattle.rc_sheet_spec.specs.Naming.{Naming}
+use Rattle.rc_sheet_spec.specs.WellFormed.{team_count, owner_count}
+use Rattle.rc_check.specs.Faults.{count}
+use Rattle.rc_check.specs.declared.grammar.Rule.{Rule}
+use Rattle.rc_check.specs.declared.grammar.Rule.TheVariants as rule
+use Rattle.rc_sheet_spec.specs.WellFormed.{owner_count_by}
+use Rattle.rc_check.specs.SecondParts.{Standing, Part, form, parts_of}
+use Rattle.rc_check.specs.SecondNames.{number_at, players_in, player_count, teams_in, teams_by, team_count as team_count_by}
+use Rattle.rc_sheet.specs.ReadNames.{ensure}
+use Rattle.rc_sheet.specs.ReadSetup.{Lines, within, count_at, team_at, teams_at, deck_at, points_at, players_line, teams_line, deck_line, points_line, line_rule}
+use Rattle.rc_sheet.specs.ReadSheet.{sheet_at}
 use Rattle.rc_sheet.proofs.Means.{Means, nothing, something, means_if, means_so, behind, either, ensured, paired, anything}
 use Rattle.rc_sheet.proofs.ReadOff.Setup.{none_listed}
 use Rattle.rc_sheet.proofs.SetupCounts.{is_below, is_line_rule, sheet_adds}

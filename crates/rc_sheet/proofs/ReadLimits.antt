@@ -1,19 +1,19 @@
 -- A sheet that is read has no more players, stages and choices than it may have.
 use Rattle.std.proofs.Common.{ℕ, ◌≤◌, nat_lt, nat_le, List, [], ◌∷◌, ◌++◌, length, Option, Some, None, is_none, subst, arith, ltb-true}
-use Rattle.rc_model.specs.Tree.{Tree, word, list, Trees, nil, cons}
-use Rattle.rc_sheet_model.specs.Sheet.{Class, player_class, team_class, Test, Alt, stage, choice, SheetItems, no_item, Sheet}
-use Rattle.rc_sheet_model.specs.Mentions.{stages_in, sites_in}
-use Rattle.rc_model.specs.Limits.{most_players, most_stages, most_sites}
-use Rattle.rc_sheet_model.specs.Naming.{Naming}
-use Rattle.rc_grammar.specs.Faults.{count}
-use Rattle.rc_grammar.specs.declared.grammar.Symbol.TheVariants as symbol
-use Rattle.rc_grammar.specs.declared.grammar.Rule.{Rule}
-use Rattle.rc_grammar.specs.declared.grammar.Rule.TheVariants as rule
-use Rattle.rc_reading.specs.ReadNames.{◌>>=◌, ensure, rule_at}
-use Rattle.rc_reading.specs.ReadEffects.{effects_at, alts_at}
-use Rattle.rc_reading.specs.ReadItems.{Begun, none_begun, with_stage, with_site, stage_of, choice_of, end_at, item_at, item_rule, items_at, score_at, but_last, last_of, body_at}
-use Rattle.rc_reading.specs.ReadSetup.{Lines, no_line, count_at, teams_at, deck_at, points_at, players_line, teams_line, deck_line, points_line, line_rule, line_at, lines_at, setup_of}
-use Rattle.rc_reading.specs.ReadSheet.{setup_rule, setup_form_at, game_parts, game_rule, sheet_at, sheet_with}
+use Rattle.rc_base.specs.Tree.{Tree, word, list, Trees, nil, cons}
+use Rattle.rc_sheet_spec.specs.Sheet.{Class, player_class, team_class, Test, Alt, stage, choice, SheetItems, no_item, Sheet}
+use Rattle.rc_sheet_spec.specs.Mentions.{stages_in, sites_in}
+use Rattle.rc_base.specs.Limits.{most_players, most_stages, most_sites}
+use Rattle.rc_sheet_spec.specs.Naming.{Naming}
+use Rattle.rc_check.specs.Faults.{count}
+use Rattle.rc_check.specs.declared.grammar.Symbol.TheVariants as symbol
+use Rattle.rc_check.specs.declared.grammar.Rule.{Rule}
+use Rattle.rc_check.specs.declared.grammar.Rule.TheVariants as rule
+use Rattle.rc_sheet.specs.ReadNames.{◌>>=◌, ensure, rule_at}
+use Rattle.rc_sheet.specs.ReadEffects.{effects_at, alts_at}
+use Rattle.rc_sheet.specs.ReadItems.{Begun, none_begun, with_stage, with_site, stage_of, choice_of, end_at, item_at, item_rule, items_at, score_at, but_last, last_of, body_at}
+use Rattle.rc_sheet.specs.ReadSetup.{Lines, no_line, count_at, teams_at, deck_at, points_at, players_line, teams_line, deck_line, points_line, line_rule, line_at, lines_at, setup_of}
+use Rattle.rc_sheet.specs.ReadSheet.{setup_rule, setup_form_at, game_parts, game_rule, sheet_at, sheet_with}
 use Rattle.rc_sheet.proofs.Means.{Means, nothing, something, means_if, means_so, weaker, mapped, behind, both_mean, ensured, anything}
 use Rattle.rc_sheet.proofs.CountedItems.{CountedItems, items_count}
 use Rattle.rc_sheet.proofs.PlayersAndTeams.{IsBetween, count_counts}

@@ -2,16 +2,16 @@
 use Rattle.std.proofs.Common.{ℕ, ◌+◌, ◌≤◌, Bool, true, false, ◌&&◌, cond, List, [], ◌∷◌, length, Option, Some, None, option_map, arith, length-append}
 use Rattle.std.specs.Prelude.{nat_lt}
 use Rattle.std.specs.List.{AllByRecursion}
-use Rattle.rc_model.specs.Tree.{Tree, word, list, Trees, nil, cons}
+use Rattle.rc_base.specs.Tree.{Tree, word, list, Trees, nil, cons}
 use Rattle.rc_deck.proofs.EachLemmas.{append_each}
-use Rattle.rc_sheet_model.specs.Sheet.{Sort}
-use Rattle.rc_sheet_model.specs.WellFormed.{Around, in_repeat}
-use Rattle.rc_grammar.specs.Faults.{rule_of, place_at, count}
-use Rattle.rc_grammar.specs.declared.grammar.Symbol.{Symbol}
-use Rattle.rc_grammar.specs.declared.grammar.Rule.{Rule}
-use Rattle.rc_grammar.specs.declared.grammar.Rule.TheVariants as rule
-use Rattle.rc_faults.specs.Classes.{bound_in}
-use Rattle.rc_faults.specs.SecondParts.{Standing, Part, atom, form, parts_at, parts_in, parts_of, with_form, standing_in, standing_alone, is_binder, around_in, word_in, part_at, sort_over}
+use Rattle.rc_sheet_spec.specs.Sheet.{Sort}
+use Rattle.rc_sheet_spec.specs.WellFormed.{Around, in_repeat}
+use Rattle.rc_check.specs.Faults.{rule_of, place_at, count}
+use Rattle.rc_check.specs.declared.grammar.Symbol.{Symbol}
+use Rattle.rc_check.specs.declared.grammar.Rule.{Rule}
+use Rattle.rc_check.specs.declared.grammar.Rule.TheVariants as rule
+use Rattle.rc_check.specs.Classes.{bound_in}
+use Rattle.rc_check.specs.SecondParts.{Standing, Part, atom, form, parts_at, parts_in, parts_of, with_form, standing_in, standing_alone, is_binder, around_in, word_in, part_at, sort_over}
 use Rattle.rc_sheet.proofs.Bodies.{standing_at}
 
 -- the scope is no longer

@@ -4,20 +4,20 @@ use Rattle.std.proofs.Common.{◌≡◌, ℕ, ◌+◌, ◌≤◌, Bool, true, fa
 use Rattle.std.specs.List.{list_all}
 use Rattle.std.proofs.lemmas.List.{append-nil}
 use Rattle.std.proofs.lemmas.Grind.{flat_map-append}
-use Rattle.rc_model.specs.Tree.{Tree, word, list, Trees, nil, cons}
-use Rattle.rc_sheet_model.specs.Sheet.{Sheet}
-use Rattle.rc_sheet_model.specs.Naming.{Naming}
-use Rattle.rc_grammar.specs.Grammar.{forms_of, front_of}
-use Rattle.rc_grammar.specs.Faults.{rule_of, or_behind, place_at, count}
-use Rattle.rc_grammar.specs.declared.grammar.Symbol.{Symbol}
-use Rattle.rc_grammar.specs.declared.grammar.Symbol.TheVariants as symbol
-use Rattle.rc_grammar.specs.declared.grammar.Rule.{Rule}
-use Rattle.rc_grammar.specs.declared.grammar.Rule.TheVariants as rule
-use Rattle.rc_faults.specs.SecondParts.{Standing, Part, atom, form, parts_at, parts_in, parts_of, with_form, standing_in, standing_alone}
-use Rattle.rc_reading.specs.ReadNames.{rule_at}
-use Rattle.rc_reading.specs.ReadItems.{body_at}
-use Rattle.rc_reading.specs.ReadSetup.{Setup, Lines, no_line, line_rule, line_at, lines_at, setup_of}
-use Rattle.rc_reading.specs.ReadSheet.{setup_rule, setup_form_at, game_parts, game_rule, sheet_at, sheet_with}
+use Rattle.rc_base.specs.Tree.{Tree, word, list, Trees, nil, cons}
+use Rattle.rc_sheet_spec.specs.Sheet.{Sheet}
+use Rattle.rc_sheet_spec.specs.Naming.{Naming}
+use Rattle.rc_check.specs.Grammar.{forms_of, front_of}
+use Rattle.rc_check.specs.Faults.{rule_of, or_behind, place_at, count}
+use Rattle.rc_check.specs.declared.grammar.Symbol.{Symbol}
+use Rattle.rc_check.specs.declared.grammar.Symbol.TheVariants as symbol
+use Rattle.rc_check.specs.declared.grammar.Rule.{Rule}
+use Rattle.rc_check.specs.declared.grammar.Rule.TheVariants as rule
+use Rattle.rc_check.specs.SecondParts.{Standing, Part, atom, form, parts_at, parts_in, parts_of, with_form, standing_in, standing_alone}
+use Rattle.rc_sheet.specs.ReadNames.{rule_at}
+use Rattle.rc_sheet.specs.ReadItems.{body_at}
+use Rattle.rc_sheet.specs.ReadSetup.{Setup, Lines, no_line, line_rule, line_at, lines_at, setup_of}
+use Rattle.rc_sheet.specs.ReadSheet.{setup_rule, setup_form_at, game_parts, game_rule, sheet_at, sheet_with}
 use Rattle.rc_sheet.proofs.Means.{Means, nothing, something, means_if, weaker, behind, anything, sized_is}
 use Rattle.rc_sheet.proofs.Bodies.{is_body, all_pass, standing_at}
 use Rattle.rc_sheet.proofs.Lands.{never, never_roles}

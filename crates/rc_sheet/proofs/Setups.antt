@@ -1,19 +1,19 @@
 -- What the lines of a setup give of attributes, of values, of point maps and of locations is what its trees say.
 use Rattle.std.proofs.Common.{◌≡◌, ℕ, ◌≤◌, List, [], ◌∷◌, ◌++◌, Some, flat_map, refl, sym, subst, ap, ap₂, ◌∙◌, arith}
 use Rattle.std.proofs.lemmas.List.{append-nil}
-use Rattle.rc_model.specs.Tree.{Tree, word, list, Trees, nil, cons}
-use Rattle.rc_sheet_model.specs.FormMentions.{gathered, words_of, group_attr_words, branch_attr_words, group_value_words, branch_value_words, deck_groups, points_map, points_entries, entry_attr_words, entry_value_words}
-use Rattle.rc_grammar.specs.Keyword.{text_of}
-use Rattle.rc_grammar.specs.Faults.{faults_at, faults_in, rule_of, place_at, count}
-use Rattle.rc_grammar.specs.declared.keyword.Keyword.TheVariants as keyword
-use Rattle.rc_grammar.specs.declared.grammar.Symbol.TheVariants as symbol
-use Rattle.rc_grammar.specs.declared.grammar.Rule.{Rule}
-use Rattle.rc_grammar.specs.declared.grammar.Rule.TheVariants as rule
-use Rattle.rc_faults.specs.declared.role.Role.{Role}
-use Rattle.rc_faults.specs.declared.role.Role.TheVariants.{No as no_role, GivenValue as given_value, DeckLocation as deck_role}
-use Rattle.rc_faults.specs.SecondParts.{Standing, Part, atom, form, parts_at, parts_in, with_form}
-use Rattle.rc_faults.specs.SecondNames.{attributes_in, value_by, values_in, maps_in, locations_in}
-use Rattle.rc_naming.specs.Mentions.{loc_mention, deck_location}
+use Rattle.rc_base.specs.Tree.{Tree, word, list, Trees, nil, cons}
+use Rattle.rc_sheet_spec.specs.FormMentions.{gathered, words_of, group_attr_words, branch_attr_words, group_value_words, branch_value_words, deck_groups, points_map, points_entries, entry_attr_words, entry_value_words}
+use Rattle.rc_check.specs.Keyword.{text_of}
+use Rattle.rc_check.specs.Faults.{faults_at, faults_in, rule_of, place_at, count}
+use Rattle.rc_check.specs.declared.keyword.Keyword.TheVariants as keyword
+use Rattle.rc_check.specs.declared.grammar.Symbol.TheVariants as symbol
+use Rattle.rc_check.specs.declared.grammar.Rule.{Rule}
+use Rattle.rc_check.specs.declared.grammar.Rule.TheVariants as rule
+use Rattle.rc_check.specs.declared.role.Role.{Role}
+use Rattle.rc_check.specs.declared.role.Role.TheVariants.{No as no_role, GivenValue as given_value, DeckLocation as deck_role}
+use Rattle.rc_check.specs.SecondParts.{Standing, Part, atom, form, parts_at, parts_in, with_form}
+use Rattle.rc_check.specs.SecondNames.{attributes_in, value_by, values_in, maps_in, locations_in}
+use Rattle.rc_resolve.specs.Mentions.{loc_mention, deck_location}
 use Rattle.rc_sheet.proofs.Shapes.{none_in_both, fixed_only}
 use Rattle.rc_sheet.proofs.Bodies.{is_body, fits_role, standing_at}
 use Rattle.rc_sheet.proofs.Given.Faces.{sole, deck_behind, groups_give}

@@ -1,12 +1,12 @@
 -- A sheet that is read off a shallow form is shallow.
 use Rattle.std.proofs.Common.{◌≡◌, Some}
-use Rattle.rc_model.specs.Tree.{Tree, word, list, IsOpenAtMost}
+use Rattle.rc_base.specs.Tree.{Tree, word, list, IsOpenAtMost}
 use Rattle.rc_form.specs.Form.{IsPrintable}
-use Rattle.rc_sheet_model.specs.Sheet.{Sheet}
-use Rattle.rc_model.specs.Limits.{most_open}
-use Rattle.rc_sheet_model.specs.Naming.{Naming}
-use Rattle.rc_sheet_model.specs.WellFormed.{IsShallow}
-use Rattle.rc_reading.specs.ReadSheet.{sheet_at}
+use Rattle.rc_sheet_spec.specs.Sheet.{Sheet}
+use Rattle.rc_base.specs.Limits.{most_open}
+use Rattle.rc_sheet_spec.specs.Naming.{Naming}
+use Rattle.rc_sheet_spec.specs.WellFormed.{IsShallow}
+use Rattle.rc_sheet.specs.ReadSheet.{sheet_at}
 use Rattle.rc_sheet.proofs.Means.{means_so}
 use Rattle.rc_sheet.proofs.ReadOff.Sheet.{sheet_means}
 

@@ -3,18 +3,18 @@ use Rattle.std.proofs.Common.{◌≡◌, ℕ, ◌+◌, ◌<◌, zero, suc, ◌==
 use Rattle.std.specs.List.{AllByRecursion, list_all}
 use Rattle.std.proofs.lemmas.Bool.{and_parts, le-leb, not-true}
 use Rattle.std.proofs.lemmas.Option.{same_Some}
-use Rattle.rc_model.specs.Tree.{Tree, word, list, Trees, nil, cons}
+use Rattle.rc_base.specs.Tree.{Tree, word, list, Trees, nil, cons}
 use Rattle.rc_deck.proofs.EachLemmas.{append_each}
-use Rattle.rc_sheet_model.specs.WellFormed.{is_atom}
-use Rattle.rc_grammar.specs.Grammar.{forms_of, front_of}
-use Rattle.rc_grammar.specs.Faults.{atom_kind, faults, faults_at, faults_in, behind_front, or_behind, place_at, count, fits}
-use Rattle.rc_grammar.specs.declared.grammar.Symbol.{Symbol}
-use Rattle.rc_grammar.specs.declared.grammar.Symbol.TheVariants as symbol
-use Rattle.rc_grammar.specs.declared.grammar.Rule.{Rule}
-use Rattle.rc_grammar.specs.declared.grammar.Rule.TheVariants as rule
-use Rattle.rc_faults.specs.declared.role.Role.{Role}
-use Rattle.rc_faults.specs.declared.role.Role.TheVariants.{No as no_role, GivenValue as given_value}
-use Rattle.rc_faults.specs.SecondParts.{front_roles, role_in, Standing, Part, atom, form, part_at, parts_at, parts_in, parts_of, with_form, standing_alone}
+use Rattle.rc_sheet_spec.specs.WellFormed.{is_atom}
+use Rattle.rc_check.specs.Grammar.{forms_of, front_of}
+use Rattle.rc_check.specs.Faults.{atom_kind, faults, faults_at, faults_in, behind_front, or_behind, place_at, count, fits}
+use Rattle.rc_check.specs.declared.grammar.Symbol.{Symbol}
+use Rattle.rc_check.specs.declared.grammar.Symbol.TheVariants as symbol
+use Rattle.rc_check.specs.declared.grammar.Rule.{Rule}
+use Rattle.rc_check.specs.declared.grammar.Rule.TheVariants as rule
+use Rattle.rc_check.specs.declared.role.Role.{Role}
+use Rattle.rc_check.specs.declared.role.Role.TheVariants.{No as no_role, GivenValue as given_value}
+use Rattle.rc_check.specs.SecondParts.{front_roles, role_in, Standing, Part, atom, form, part_at, parts_at, parts_in, parts_of, with_form, standing_alone}
 use Rattle.rc_form.specs.SameForm.{IsAtom, IsOfAtoms, AreOfAtoms}
 use Rattle.rc_sheet.proofs.Shapes.{none_in_both, shape_of, rule_holds, kindless}
 use Rattle.rc_sheet.proofs.Bodies.{each_passes, standing_at}

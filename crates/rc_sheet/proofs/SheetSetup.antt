@@ -1,15 +1,15 @@
 -- What a sheet says before its items is what the setup of its form says.
 use Rattle.std.proofs.Common.{◌≡◌, ℕ, Some, refl, sym, subst}
-use Rattle.rc_model.specs.Tree.{Tree, word, list, Trees, cons}
-use Rattle.rc_sheet_model.specs.Sheet.{SheetItems, Best, IntExpr, Sheet}
-use Rattle.rc_sheet_model.specs.Naming.{Naming}
-use Rattle.rc_grammar.specs.declared.grammar.Symbol.TheVariants as symbol
-use Rattle.rc_grammar.specs.declared.grammar.Rule.{Rule}
-use Rattle.rc_grammar.specs.declared.grammar.Rule.TheVariants as rule
-use Rattle.rc_reading.specs.ReadNames.{rule_at}
-use Rattle.rc_reading.specs.ReadItems.{body_at}
-use Rattle.rc_reading.specs.ReadSetup.{Setup}
-use Rattle.rc_reading.specs.ReadSheet.{setup_form_at, game_parts, game_rule, sheet_at, sheet_with}
+use Rattle.rc_base.specs.Tree.{Tree, word, list, Trees, cons}
+use Rattle.rc_sheet_spec.specs.Sheet.{SheetItems, Best, IntExpr, Sheet}
+use Rattle.rc_sheet_spec.specs.Naming.{Naming}
+use Rattle.rc_check.specs.declared.grammar.Symbol.TheVariants as symbol
+use Rattle.rc_check.specs.declared.grammar.Rule.{Rule}
+use Rattle.rc_check.specs.declared.grammar.Rule.TheVariants as rule
+use Rattle.rc_sheet.specs.ReadNames.{rule_at}
+use Rattle.rc_sheet.specs.ReadItems.{body_at}
+use Rattle.rc_sheet.specs.ReadSetup.{Setup}
+use Rattle.rc_sheet.specs.ReadSheet.{setup_form_at, game_parts, game_rule, sheet_at, sheet_with}
 use Rattle.rc_sheet.proofs.Means.{Means, nothing, something, means_if, means_so, behind, anything}
 use Rattle.rc_sheet.proofs.Fine.Lines.{setup_in}
 

@@ -3,14 +3,14 @@ use Rattle.std.proofs.Common.{◌≡◌, ℕ, ◌+◌, ◌≤◌, ◌==◌, Bool
 use Rattle.std.specs.List.{list_all}
 use Rattle.std.proofs.lemmas.Bool.{and_parts}
 use Rattle.std.proofs.lemmas.Grind.{flat_map-append}
-use Rattle.rc_model.specs.Tree.{Tree, word, list, Trees, nil, cons}
-use Rattle.rc_grammar.specs.Grammar.{forms_of, front_of, more_of}
-use Rattle.rc_grammar.specs.Faults.{rule_of, behind_front, or_behind, place_at, count}
-use Rattle.rc_grammar.specs.declared.grammar.Symbol.{Symbol}
-use Rattle.rc_grammar.specs.declared.grammar.Rule.{Rule}
-use Rattle.rc_grammar.specs.declared.grammar.Rule.TheVariants as rule
-use Rattle.rc_faults.specs.declared.role.Role.{Role}
-use Rattle.rc_faults.specs.SecondParts.{role_in, Standing, Part, atom, form, parts_at, parts_in, with_form, standing_in}
+use Rattle.rc_base.specs.Tree.{Tree, word, list, Trees, nil, cons}
+use Rattle.rc_check.specs.Grammar.{forms_of, front_of, more_of}
+use Rattle.rc_check.specs.Faults.{rule_of, behind_front, or_behind, place_at, count}
+use Rattle.rc_check.specs.declared.grammar.Symbol.{Symbol}
+use Rattle.rc_check.specs.declared.grammar.Rule.{Rule}
+use Rattle.rc_check.specs.declared.grammar.Rule.TheVariants as rule
+use Rattle.rc_check.specs.declared.role.Role.{Role}
+use Rattle.rc_check.specs.SecondParts.{role_in, Standing, Part, atom, form, parts_at, parts_in, with_form, standing_in}
 use Rattle.rc_sheet.proofs.Shapes.{rule_holds}
 use Rattle.rc_sheet.proofs.Bodies.{each_passes, all_pass, standing_at}
 

@@ -4,20 +4,20 @@ use Rattle.std.specs.Prelude.{int_le, ◌-◌, nat_abs, unwrap_or, ℤ, pos}
 use Rattle.std.specs.List.{AllByRecursion}
 use Rattle.std.proofs.lemmas.Grind.{flat_map-append}
 use Rattle.std.proofs.lemmas.Bool.{and_parts, not-false}
-use Rattle.rc_model.specs.Literal.{integer}
-use Rattle.rc_model.specs.Tree.{Tree, word, list, Trees, nil, cons}
+use Rattle.rc_base.specs.Literal.{integer}
+use Rattle.rc_base.specs.Tree.{Tree, word, list, Trees, nil, cons}
 use Rattle.rc_deck.proofs.EachLemmas.{append_each}
-use Rattle.rc_grammar.specs.Keyword.{text_of}
-use Rattle.rc_grammar.specs.Faults.{faults, faults_at, faults_in, told_faults, lacks_players, names_players, some_names_players, rule_of, or_else, place_at, count, fits, is_within}
-use Rattle.rc_grammar.specs.declared.fault.SheetKind.TheVariants.{Number}
-use Rattle.rc_grammar.specs.declared.keyword.Keyword.TheVariants as keyword
-use Rattle.rc_grammar.specs.declared.grammar.Symbol.{Symbol}
-use Rattle.rc_grammar.specs.declared.grammar.Symbol.TheVariants as symbol
-use Rattle.rc_grammar.specs.declared.grammar.Rule.{Rule}
-use Rattle.rc_grammar.specs.declared.grammar.Rule.TheVariants as rule
-use Rattle.rc_faults.specs.SecondParts.{Standing, Part, atom, form, standing_alone, standing_in, with_form, parts_at, parts_in, parts_of}
-use Rattle.rc_faults.specs.SecondNames.{some_of, number_at, players_in, player_count, teams_in, teams_by, team_count}
-use Rattle.rc_faults.specs.SecondFaults.{second_faults}
+use Rattle.rc_check.specs.Keyword.{text_of}
+use Rattle.rc_check.specs.Faults.{faults, faults_at, faults_in, told_faults, lacks_players, names_players, some_names_players, rule_of, or_else, place_at, count, fits, is_within}
+use Rattle.rc_check.specs.declared.fault.SheetKind.TheVariants.{Number}
+use Rattle.rc_check.specs.declared.keyword.Keyword.TheVariants as keyword
+use Rattle.rc_check.specs.declared.grammar.Symbol.{Symbol}
+use Rattle.rc_check.specs.declared.grammar.Symbol.TheVariants as symbol
+use Rattle.rc_check.specs.declared.grammar.Rule.{Rule}
+use Rattle.rc_check.specs.declared.grammar.Rule.TheVariants as rule
+use Rattle.rc_check.specs.SecondParts.{Standing, Part, atom, form, standing_alone, standing_in, with_form, parts_at, parts_in, parts_of}
+use Rattle.rc_check.specs.SecondNames.{some_of, number_at, players_in, player_count, teams_in, teams_by, team_count}
+use Rattle.rc_check.specs.SecondFaults.{second_faults}
 use Rattle.rc_sheet.proofs.Shapes.{none_in_both, three_only, atom_only, inner_faults, taken, line_place}
 use Rattle.rc_sheet.proofs.Bodies.{standing_at}
 use Rattle.rc_sheet.proofs.Whole.{setup_of, parts_with, sheet_only}

@@ -5,8 +5,8 @@ use Rattle.std.specs.List.{AllByRecursion, range_with_len, IsDistinct}
 use Rattle.std.proofs.lemmas.Bool.{or_parts}
 use Rattle.std.proofs.lemmas.List.Sums.{sum_by-cons}
 use Rattle.std.proofs.lemmas.Map.Steps.{length-le_from_distinct_below, le-length_from_below}
-use Rattle.rc_model.specs.Numbers.{below}
-use Rattle.rc_sheet_model.specs.WellFormed.{is_among}
+use Rattle.rc_base.specs.Numbers.{below}
+use Rattle.rc_sheet_spec.specs.WellFormed.{is_among}
 
 -- no number stands twice
 abbrev pub Differ : List ℕ → Type 0

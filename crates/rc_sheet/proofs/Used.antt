@@ -4,20 +4,20 @@ use Rattle.std.specs.Prelude.{codes, if◌then◌else◌}
 use Rattle.std.specs.List.{list_any, list_all, AllByRecursion}
 use Rattle.std.proofs.lemmas.Bool.{cond-false, or_from}
 use Rattle.std.proofs.lemmas.List.{append-nil}
-use Rattle.rc_model.specs.Tree.{Tree, word, list, Trees, nil, cons}
-use Rattle.rc_sheet_model.specs.FormMentions.{gathered, all_gathered, attr_word, value_word, map_word, word_of, is_measure, is_text}
-use Rattle.rc_grammar.specs.Faults.{faults_at, faults_in, place_at, count, fits}
-use Rattle.rc_grammar.specs.Grammar.{forms_of}
-use Rattle.rc_grammar.specs.Keyword.{text_of}
-use Rattle.rc_grammar.specs.declared.keyword.Keyword.{Keyword}
-use Rattle.rc_grammar.specs.declared.keyword.Keyword.TheVariants as keyword
-use Rattle.rc_grammar.specs.declared.grammar.Symbol.{Symbol}
-use Rattle.rc_grammar.specs.declared.grammar.Symbol.TheVariants as symbol
-use Rattle.rc_grammar.specs.declared.grammar.Rule.{Rule}
-use Rattle.rc_grammar.specs.declared.grammar.Rule.TheVariants as rule
-use Rattle.rc_faults.specs.declared.role.Role.{Role}
-use Rattle.rc_faults.specs.declared.role.Role.TheVariants.{No as no_role, UsedAttribute as used_attribute, UsedValue as used_value, UsedMap as used_map, GivenValue as given_value}
-use Rattle.rc_faults.specs.SecondParts.{front_roles, role_in, Standing, Part, atom, form, standing_in}
+use Rattle.rc_base.specs.Tree.{Tree, word, list, Trees, nil, cons}
+use Rattle.rc_sheet_spec.specs.FormMentions.{gathered, all_gathered, attr_word, value_word, map_word, word_of, is_measure, is_text}
+use Rattle.rc_check.specs.Faults.{faults_at, faults_in, place_at, count, fits}
+use Rattle.rc_check.specs.Grammar.{forms_of}
+use Rattle.rc_check.specs.Keyword.{text_of}
+use Rattle.rc_check.specs.declared.keyword.Keyword.{Keyword}
+use Rattle.rc_check.specs.declared.keyword.Keyword.TheVariants as keyword
+use Rattle.rc_check.specs.declared.grammar.Symbol.{Symbol}
+use Rattle.rc_check.specs.declared.grammar.Symbol.TheVariants as symbol
+use Rattle.rc_check.specs.declared.grammar.Rule.{Rule}
+use Rattle.rc_check.specs.declared.grammar.Rule.TheVariants as rule
+use Rattle.rc_check.specs.declared.role.Role.{Role}
+use Rattle.rc_check.specs.declared.role.Role.TheVariants.{No as no_role, UsedAttribute as used_attribute, UsedValue as used_value, UsedMap as used_map, GivenValue as given_value}
+use Rattle.rc_check.specs.SecondParts.{front_roles, role_in, Standing, Part, atom, form, standing_in}
 use Rattle.rc_sheet.proofs.Shapes.{none_in_both, HasShape, three_only, four_only, refuses, refuted, atom_only, fixed_only}
 use Rattle.rc_sheet.proofs.Bodies.{is_body_rule, is_used, IsBody, body_rule, unused_list, standing_at, all_refused}
 use Rattle.rc_sheet.proofs.Gathered.{by_atom, in_row, AllTell, Tells, quiet_row, quiet_role}

@@ -1,15 +1,15 @@
 -- A sheet that is read off a form without a fault is well formed.
 use Rattle.std.proofs.Common.{◌≡◌, [], Some}
-use Rattle.rc_model.specs.Tree.{Tree}
+use Rattle.rc_base.specs.Tree.{Tree}
 use Rattle.rc_form.specs.Form.{IsPrintable}
 use Rattle.rc_form.specs.SameForm.{IsOfAtoms}
-use Rattle.rc_sheet_model.specs.Sheet.{Sheet}
-use Rattle.rc_sheet_model.specs.WellFormed.{IsWellFormed}
-use Rattle.rc_grammar.specs.Faults.{faults}
-use Rattle.rc_grammar.specs.declared.grammar.Symbol.TheVariants as symbol
-use Rattle.rc_faults.specs.SecondFaults.{second_faults}
-use Rattle.rc_naming.specs.Naming.{naming_of}
-use Rattle.rc_reading.specs.ReadSheet.{sheet_at}
+use Rattle.rc_sheet_spec.specs.Sheet.{Sheet}
+use Rattle.rc_sheet_spec.specs.WellFormed.{IsWellFormed}
+use Rattle.rc_check.specs.Faults.{faults}
+use Rattle.rc_check.specs.declared.grammar.Symbol.TheVariants as symbol
+use Rattle.rc_check.specs.SecondFaults.{second_faults}
+use Rattle.rc_resolve.specs.Naming.{naming_of}
+use Rattle.rc_sheet.specs.ReadSheet.{sheet_at}
 use Rattle.rc_sheet.proofs.Fine.Sheet.{HasFineBody}
 use Rattle.rc_sheet.proofs.Fine.Teams.{teams_are_a_partition}
 use Rattle.rc_sheet.proofs.Fine.Cards.{sheet_has_cards}

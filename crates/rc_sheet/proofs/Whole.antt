@@ -3,20 +3,20 @@ use Rattle.std.proofs.Common.{◌≡◌, ℕ, ◌+◌, ◌≤◌, ◌==◌, zero
 use Rattle.std.proofs.lemmas.Bool.{cond-false}
 use Rattle.std.proofs.lemmas.List.{append-nil}
 use Rattle.std.proofs.lemmas.Grind.{flat_map-append}
-use Rattle.rc_model.specs.Tree.{Tree, word, list, Trees, nil, cons}
-use Rattle.rc_sheet_model.specs.StandsSetup.{lines_with}
-use Rattle.rc_sheet_model.specs.FormMentions.{all_gathered, attr_word, value_word, map_word, group_attr_words, group_value_words, deck_groups, points_map, points_entries, entry_attr_words, entry_value_words, attr_mentions, value_mentions, map_mentions}
-use Rattle.rc_grammar.specs.Keyword.{text_of}
-use Rattle.rc_grammar.specs.Faults.{faults, faults_at, faults_in, behind_front, place_at, count, fits}
-use Rattle.rc_grammar.specs.declared.keyword.Keyword.TheVariants as keyword
-use Rattle.rc_grammar.specs.declared.grammar.Symbol.{Symbol}
-use Rattle.rc_grammar.specs.declared.grammar.Symbol.TheVariants as symbol
-use Rattle.rc_grammar.specs.declared.grammar.Rule.TheVariants as rule
-use Rattle.rc_faults.specs.declared.role.Role.{Role}
-use Rattle.rc_faults.specs.declared.role.Role.TheVariants.{No as no_role}
-use Rattle.rc_faults.specs.SecondParts.{Standing, Part, parts_at, parts_in, parts_of, standing_alone}
-use Rattle.rc_faults.specs.SecondNames.{attributes_in, values_in, maps_in, locations_in, numbers_of, OwnedMention}
-use Rattle.rc_naming.specs.Mentions.{loc_mention, num_mention, deck_location, all_locations, all_numbers}
+use Rattle.rc_base.specs.Tree.{Tree, word, list, Trees, nil, cons}
+use Rattle.rc_sheet_spec.specs.StandsSetup.{lines_with}
+use Rattle.rc_sheet_spec.specs.FormMentions.{all_gathered, attr_word, value_word, map_word, group_attr_words, group_value_words, deck_groups, points_map, points_entries, entry_attr_words, entry_value_words, attr_mentions, value_mentions, map_mentions}
+use Rattle.rc_check.specs.Keyword.{text_of}
+use Rattle.rc_check.specs.Faults.{faults, faults_at, faults_in, behind_front, place_at, count, fits}
+use Rattle.rc_check.specs.declared.keyword.Keyword.TheVariants as keyword
+use Rattle.rc_check.specs.declared.grammar.Symbol.{Symbol}
+use Rattle.rc_check.specs.declared.grammar.Symbol.TheVariants as symbol
+use Rattle.rc_check.specs.declared.grammar.Rule.TheVariants as rule
+use Rattle.rc_check.specs.declared.role.Role.{Role}
+use Rattle.rc_check.specs.declared.role.Role.TheVariants.{No as no_role}
+use Rattle.rc_check.specs.SecondParts.{Standing, Part, parts_at, parts_in, parts_of, standing_alone}
+use Rattle.rc_check.specs.SecondNames.{attributes_in, values_in, maps_in, locations_in, numbers_of, OwnedMention}
+use Rattle.rc_resolve.specs.Mentions.{loc_mention, num_mention, deck_location, all_locations, all_numbers}
 use Rattle.rc_sheet.proofs.Among.{Among, Within, among_left, among_right, both_within}
 use Rattle.rc_sheet.proofs.Shapes.{none_in_both, fixed_only}
 use Rattle.rc_sheet.proofs.Bodies.{is_body, is_body_or_none, is_used, IsBody, no_role_fits, standing_at}

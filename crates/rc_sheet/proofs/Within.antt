@@ -1,15 +1,15 @@
 -- A sheet that is read off a form without a fault is within its limits.
 use Rattle.std.proofs.Common.{◌≡◌, ◌≤◌, [], length, Some, sym, subst, ap}
-use Rattle.rc_model.specs.Tree.{Tree}
-use Rattle.rc_sheet_model.specs.Sheet.{Names, Sheet}
-use Rattle.rc_model.specs.Limits.{most_attrs, most_values, most_maps}
-use Rattle.rc_sheet_model.specs.FormMentions.{names_of}
-use Rattle.rc_sheet_model.specs.WellFormed.{IsWithinLimits}
-use Rattle.rc_grammar.specs.Faults.{faults}
-use Rattle.rc_grammar.specs.declared.grammar.Symbol.TheVariants as symbol
-use Rattle.rc_faults.specs.SecondFaults.{second_faults}
-use Rattle.rc_naming.specs.Naming.{naming_of}
-use Rattle.rc_reading.specs.ReadSheet.{sheet_at}
+use Rattle.rc_base.specs.Tree.{Tree}
+use Rattle.rc_sheet_spec.specs.Sheet.{Names, Sheet}
+use Rattle.rc_base.specs.Limits.{most_attrs, most_values, most_maps}
+use Rattle.rc_sheet_spec.specs.FormMentions.{names_of}
+use Rattle.rc_sheet_spec.specs.WellFormed.{IsWithinLimits}
+use Rattle.rc_check.specs.Faults.{faults}
+use Rattle.rc_check.specs.declared.grammar.Symbol.TheVariants as symbol
+use Rattle.rc_check.specs.SecondFaults.{second_faults}
+use Rattle.rc_resolve.specs.Naming.{naming_of}
+use Rattle.rc_sheet.specs.ReadSheet.{sheet_at}
 use Rattle.rc_sheet.proofs.Means.{means_so}
 use Rattle.rc_sheet.proofs.Mentioned.Numbers.{sheet_reads}
 use Rattle.rc_sheet.proofs.FewNames.{few_attributes, few_values, few_maps}

@@ -1,22 +1,21 @@
 //! The sheet of a form.
 ghost use Rattle.std.specs.Prelude.{◌≡◌, ℕ, Some, None, IfOk, IfErr};
-ghost use Rattle.rc_model.specs.Placed.{IsPlaced};
-ghost use Rattle.rc_model.specs.Tree.{IsOpenAtMost};
+ghost use Rattle.rc_base.specs.Placed.{IsPlaced};
+ghost use Rattle.rc_base.specs.Tree.{IsOpenAtMost};
 ghost use Rattle.rc_form.specs.Form.{tree_of};
 ghost use Rattle.rc_form.specs.SameForm.{IsOfAtoms};
 ghost use Rattle.rc_ast.specs.Sheet.{sheet_seen};
-ghost use Rattle.rc_sheet_model.specs.Stands.{Stands};
-ghost use Rattle.rc_sheet_model.specs.WellFormed.{IsWellFormed};
-ghost use Rattle.rc_faults.specs.SecondFaults.{sheet_fault};
-ghost use Rattle.rc_faults.specs.FirstFault.{IsFirstFault};
-ghost use Rattle.rc_faults.specs.Checks.{IfSheetFault};
+ghost use Rattle.rc_sheet_spec.specs.Stands.{Stands};
+ghost use Rattle.rc_sheet_spec.specs.WellFormed.{IsWellFormed};
+ghost use Rattle.rc_check.specs.SecondFaults.{sheet_fault};
+ghost use Rattle.rc_check.specs.FirstFault.{IsFirstFault};
+ghost use Rattle.rc_check.specs.Checks.{IfSheetFault};
 
+use crate::{Reader, Unread};
 use rc_ast::Sheet;
-use rc_faults::{SheetFail, check_semantics};
+use rc_check::{SheetFail, check_semantics, check_shape};
 use rc_form::Form;
-use rc_grammar::check_shape;
-use rc_naming::naming_of;
-use rc_reading::{Reader, Unread};
+use rc_resolve::naming_of;
 use std::alloc::Global;
 
 /// Makes the sheet of a form. The error is the form's first fault, or that there was no memory: the first fault of its

@@ -1,8 +1,8 @@
 -- How many references there are, location by location.
 use Rattle.std.proofs.Common.{◌≡◌, ℕ, zero, suc, ◌+◌, ◌<◌, cond, List, [], ◌∷◌, length, get_or, drop, slice_get, sum_by, zip, subst, arith}
 use Rattle.std.proofs.lemmas.List.Sums.{sum_by-cons}
-use Rattle.rc_play_model.specs.Shape.{Place, holds_references}
-use Rattle.rc_play_model.specs.Table.{references_in}
+use Rattle.rc_play_spec.specs.Shape.{Place, holds_references}
+use Rattle.rc_play_spec.specs.Table.{references_in}
 
 -- references in the locations from one on
 references_next : (places : List Place) (lists : List (List ℕ)) (loc : ℕ) → loc < length places → length lists ≡ length places →

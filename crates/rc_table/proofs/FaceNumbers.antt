@@ -2,8 +2,8 @@
 use Rattle.std.proofs.Common.{ℕ, ◌+◌, ◌≤◌, [], true≢false, sym, ◌∙◌, arith}
 use Rattle.std.proofs.Math.Nat.{lt_of_not-le}
 use Rattle.std.proofs.lemmas.List.Sums.{fails_before_first}
-use Rattle.rc_play_model.specs.Shape.{Shape, face_at, face_eq, face_number}
-use Rattle.rc_play_model.proofs.Faces.{face_eq_self}
+use Rattle.rc_play_spec.specs.Shape.{Shape, face_at, face_eq, face_number}
+use Rattle.rc_play_spec.proofs.Faces.{face_eq_self}
 
 pub number_le : (shape : Shape) (id : ℕ) → face_number shape id ≤ id
 number_le shape id =

@@ -7,12 +7,12 @@ use Rattle.std.proofs.lemmas.List.{get_or_past, get_or-set_same, length-set}
 use Rattle.std.proofs.lemmas.List.Elements.{recursion_from_All}
 use Rattle.std.proofs.lemmas.List.FromFn.{length-range_with_len}
 use Rattle.std.proofs.lemmas.List.Sums.{sum_by-cons}
-use Rattle.rc_model.specs.Numbers.{below}
+use Rattle.rc_base.specs.Numbers.{below}
 use Rattle.rc_deck.proofs.EachLemmas.{append_each}
-use Rattle.rc_sheet_model.specs.WellFormed.{is_mem}
-use Rattle.rc_play_model.specs.Shape.{Place, Shape, holds_references}
-use Rattle.rc_play_model.specs.Table.{Table, IsSound, list_at, times_in, references_in, has_room, onto, under, remember_top, remember_bottom}
-use Rattle.rc_play_model.proofs.Counting.{passing, same, passing-is, passing-append, passing-all, each_once}
+use Rattle.rc_sheet_spec.specs.WellFormed.{is_mem}
+use Rattle.rc_play_spec.specs.Shape.{Place, Shape, holds_references}
+use Rattle.rc_play_spec.specs.Table.{Table, IsSound, list_at, times_in, references_in, has_room, onto, under, remember_top, remember_bottom}
+use Rattle.rc_play_spec.proofs.Counting.{passing, same, passing-is, passing-append, passing-all, each_once}
 use Rattle.rc_table.specs.Shape.{IsShape}
 use Rattle.rc_table.specs.Laid.{room_in, rooms}
 use Rattle.rc_table.specs.Rows.{HaveRoom}

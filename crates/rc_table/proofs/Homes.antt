@@ -8,11 +8,11 @@ use Rattle.std.proofs.lemmas.List.Elements.{filter-append}
 use Rattle.std.proofs.lemmas.List.FromFn.{get_or-map-range_with_len, length-range_with_len}
 use Rattle.std.proofs.lemmas.List.Sums.{length-filter, count_by-le-length}
 use Rattle.std.proofs.lemmas.Option.{slice_get_within}
-use Rattle.rc_model.specs.Numbers.{below}
+use Rattle.rc_base.specs.Numbers.{below}
 use Rattle.rc_deck.proofs.RangeLemmas.{range_push}
-use Rattle.rc_play_model.specs.Shape.{Shape}
-use Rattle.rc_play_model.specs.Bound.{HasHomes}
-use Rattle.rc_play_model.proofs.OpeningLemmas.{differs}
+use Rattle.rc_play_spec.specs.Shape.{Shape}
+use Rattle.rc_play_spec.specs.Bound.{HasHomes}
+use Rattle.rc_play_spec.proofs.OpeningLemmas.{differs}
 use Rattle.rc_table.specs.Laid.{rooms}
 use Rattle.rc_table.proofs.Held.{room_at}
 use Rattle.rc_table.proofs.WhereaboutLemmas.{no_references}

@@ -3,11 +3,11 @@ use Rattle.std.proofs.Common.{◌≡◌, ℕ, zero, suc, ◌+◌, ◌<◌, ◌==
 use Rattle.std.specs.Prelude.{filter, All}
 use Rattle.std.specs.List.{list_any}
 use Rattle.std.proofs.lemmas.List.Kept.{AllPairs-filter}
-use Rattle.rc_model.specs.Numbers.{below}
-use Rattle.rc_play_model.specs.Table.{AreSeats, is_marked, cleared}
-use Rattle.rc_play_model.proofs.Counting.{kept, left_out, once_below}
-use Rattle.rc_play_model.proofs.SmallestLemmas.{is-used, not-used}
-use Rattle.rc_play_model.proofs.Ids.{below_pairs}
+use Rattle.rc_base.specs.Numbers.{below}
+use Rattle.rc_play_spec.specs.Table.{AreSeats, is_marked, cleared}
+use Rattle.rc_play_spec.proofs.Counting.{kept, left_out, once_below}
+use Rattle.rc_play_spec.proofs.SmallestLemmas.{is-used, not-used}
+use Rattle.rc_play_spec.proofs.Ids.{below_pairs}
 use Rattle.rc_table.specs.Marks.{has_bit, seats_in}
 
 pub none_set : (n id : ℕ) → map seats_in (replicate n 0) ≡ set (map seats_in (replicate n 0)) id []

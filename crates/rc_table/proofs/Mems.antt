@@ -5,9 +5,9 @@ use Rattle.std.proofs.lemmas.Bool.Decides.{nat_tests}
 use Rattle.std.proofs.lemmas.List.{at_drop_more}
 use Rattle.std.proofs.lemmas.List.Elements.{recursion_from_All}
 use Rattle.std.proofs.lemmas.List.Sums.{sum_by-cons}
-use Rattle.rc_sheet_model.specs.WellFormed.{is_mem}
-use Rattle.rc_play_model.specs.Shape.{Place as PurePlace, Shape, holds_references}
-use Rattle.rc_play_model.specs.Table.{Table, IsSound, list_at, references, references_in}
+use Rattle.rc_sheet_spec.specs.WellFormed.{is_mem}
+use Rattle.rc_play_spec.specs.Shape.{Place as PurePlace, Shape, holds_references}
+use Rattle.rc_play_spec.specs.Table.{Table, IsSound, list_at, references, references_in}
 use Rattle.rc_table.specs.declared.place.Place.{Place}
 use Rattle.rc_table.specs.Places.{place_seen}
 use Rattle.rc_table.specs.Shape.{mems_among, mems_here}

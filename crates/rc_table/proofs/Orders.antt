@@ -8,10 +8,10 @@ use Rattle.std.proofs.lemmas.List.{take_more, take_more_set, map-append, length-
 use Rattle.std.proofs.lemmas.List.Elements.{All-from_recursion}
 use Rattle.std.proofs.lemmas.List.FromFn.{length-range_with_len}
 use Rattle.std.proofs.lemmas.List.Sorted.{All-permutation, length_permutation}
-use Rattle.rc_model.specs.Numbers.{below}
-use Rattle.rc_play_model.specs.Table.{Table, list_at, with_list, taken, reorder, cleared}
+use Rattle.rc_base.specs.Numbers.{below}
+use Rattle.rc_play_spec.specs.Table.{Table, list_at, with_list, taken, reorder, cleared}
 use Rattle.rc_table.specs.Restored.{relisted}
-use Rattle.rc_play_model.proofs.CardLemmas.{numbers_below}
+use Rattle.rc_play_spec.proofs.CardLemmas.{numbers_below}
 
 pub order_within : (n : ℕ) (order : List ℕ) → IsPermutation (below n) order → All (λ i. i < n) order
 order_within n order permutes =

@@ -5,11 +5,11 @@ use Rattle.std.proofs.lemmas.List.{get_or-set_same, length-replicate, length-rev
 use Rattle.std.proofs.lemmas.List.Elements.{recursion_from_All, All-from_recursion}
 use Rattle.std.proofs.lemmas.List.Sums.{length-filter, count_by-le-length}
 use Rattle.std.proofs.lemmas.Option.{slice_get_within}
-use Rattle.rc_sheet_model.specs.Sheet.{End, top, bottom}
-use Rattle.rc_play_model.specs.Shape.{Shape}
-use Rattle.rc_play_model.specs.Table.{Table, IsSound, list_at, loc_of, place_of}
-use Rattle.rc_play_model.specs.Bound.{HoldsCards}
-use Rattle.rc_play_model.specs.TableLaws.{PutKeepsSound}
+use Rattle.rc_sheet_spec.specs.Sheet.{End, top, bottom}
+use Rattle.rc_play_spec.specs.Shape.{Shape}
+use Rattle.rc_play_spec.specs.Table.{Table, IsSound, list_at, loc_of, place_of}
+use Rattle.rc_play_spec.specs.Bound.{HoldsCards}
+use Rattle.rc_play_spec.specs.TableLaws.{PutKeepsSound}
 use Rattle.rc_table.specs.Shape.{IsShape}
 use Rattle.rc_table.specs.Laid.{rooms}
 use Rattle.rc_table.specs.Runs.{put_each, all_added, left_out, run_put, is_free, flagged, AreFresh}

@@ -6,15 +6,15 @@ use Rattle.std.proofs.lemmas.Bool.Decides.{Decides-eqb}
 use Rattle.std.proofs.lemmas.List.{set-set, set_comm, set-get_or, get_or-set_same, get_or-set_other, get_or_past, append_assoc, reverse-append, get_or-replicate, length-replicate}
 use Rattle.std.proofs.lemmas.List.Elements.{filter-append, recursion_from_All, All-from_recursion}
 use Rattle.std.proofs.Math.ListN.{get_or-append}
-use Rattle.rc_sheet_model.specs.Sheet.{End, top, bottom}
-use Rattle.rc_play_model.specs.Shape.{Shape}
-use Rattle.rc_play_model.specs.Table.{Table, IsSound, list_at, place_of, with_list, set_marks, onto, under, cleared}
-use Rattle.rc_play_model.specs.Bound.{HoldsCards}
-use Rattle.rc_play_model.specs.Effects.{put}
-use Rattle.rc_play_model.specs.TableLaws.{PutKeepsSound}
-use Rattle.rc_play_model.proofs.OnePlace.{is_card, one_place}
+use Rattle.rc_sheet_spec.specs.Sheet.{End, top, bottom}
+use Rattle.rc_play_spec.specs.Shape.{Shape}
+use Rattle.rc_play_spec.specs.Table.{Table, IsSound, list_at, place_of, with_list, set_marks, onto, under, cleared}
+use Rattle.rc_play_spec.specs.Bound.{HoldsCards}
+use Rattle.rc_play_spec.specs.Effects.{put}
+use Rattle.rc_play_spec.specs.TableLaws.{PutKeepsSound}
+use Rattle.rc_play_spec.proofs.OnePlace.{is_card, one_place}
 use Rattle.std.proofs.lemmas.Option.{slice_get_within}
-use Rattle.rc_play_model.proofs.OpeningLemmas.{differs}
+use Rattle.rc_play_spec.proofs.OpeningLemmas.{differs}
 use Rattle.rc_table.specs.Runs.{put_each, all_added, left_out, run_moved, run_put, is_free, flagged, AreFresh}
 use Rattle.rc_table.proofs.WhereaboutLemmas.{stands_there}
 

@@ -4,10 +4,10 @@ use Rattle.std.specs.Prelude.{filter, All}
 use Rattle.std.proofs.lemmas.List.{take_more, drop_more, drop-drop, take-append-drop, reverse-append}
 use Rattle.std.proofs.lemmas.List.Elements.{filter-append, All-push}
 use Rattle.std.proofs.lemmas.List.Sums.{fold-append}
-use Rattle.rc_sheet_model.specs.Sheet.{End}
-use Rattle.rc_play_model.specs.Shape.{Shape}
-use Rattle.rc_play_model.specs.Table.{Table, loc_of}
-use Rattle.rc_play_model.specs.Effects.{put}
+use Rattle.rc_sheet_spec.specs.Sheet.{End}
+use Rattle.rc_play_spec.specs.Shape.{Shape}
+use Rattle.rc_play_spec.specs.Table.{Table, loc_of}
+use Rattle.rc_play_spec.specs.Effects.{put}
 use Rattle.rc_table.specs.Runs.{put_each, is_free, flagged, AreFresh}
 use Rattle.rc_table.specs.Laid.{Laid, relaid}
 use Rattle.rc_table.specs.Whereabouts.{whereabouts}

@@ -4,10 +4,10 @@ use Rattle.std.proofs.lemmas.Bool.{cond-false}
 use Rattle.std.proofs.lemmas.List.{get_or-set_same}
 use Rattle.std.proofs.Math.Seq.{drop-append_seam}
 use Rattle.std.proofs.lemmas.Option.{slice_get_within}
-use Rattle.rc_play_model.specs.Shape.{Shape}
-use Rattle.rc_play_model.specs.Table.{Table, IsSound, list_at, place_of, set_marks, without, onto, put_top}
-use Rattle.rc_play_model.specs.Bound.{HoldsCards}
-use Rattle.rc_play_model.proofs.SoundLemmas.{cleared_sound}
+use Rattle.rc_play_spec.specs.Shape.{Shape}
+use Rattle.rc_play_spec.specs.Table.{Table, IsSound, list_at, place_of, set_marks, without, onto, put_top}
+use Rattle.rc_play_spec.specs.Bound.{HoldsCards}
+use Rattle.rc_play_spec.proofs.SoundLemmas.{cleared_sound}
 use Rattle.rc_table.specs.Shape.{IsShape}
 use Rattle.rc_table.specs.Laid.{rooms}
 use Rattle.rc_table.specs.Restored.{taken_at}

@@ -7,9 +7,9 @@ use Rattle.std.proofs.lemmas.Bool.Decides.{Decides-eqb}
 use Rattle.std.proofs.lemmas.List.{get_or-set_same, get_or-set_other, get_or_past, take_all, drop_all}
 use Rattle.std.proofs.lemmas.List.Edits.{get_or-insert_below, get_or-remove_below}
 use Rattle.std.proofs.lemmas.Option.{slice_get_within}
-use Rattle.rc_play_model.specs.Shape.{Shape}
-use Rattle.rc_play_model.specs.Table.{Table, IsSound, list_at, place_of, with_list}
-use Rattle.rc_play_model.specs.Bound.{HoldsCards, HoldsReferences}
+use Rattle.rc_play_spec.specs.Shape.{Shape}
+use Rattle.rc_play_spec.specs.Table.{Table, IsSound, list_at, place_of, with_list}
+use Rattle.rc_play_spec.specs.Bound.{HoldsCards, HoldsReferences}
 use Rattle.rc_table.specs.Shape.{IsShape}
 use Rattle.rc_table.specs.Restored.{put_at, taken_at, moved_between, relisted}
 use Rattle.rc_table.specs.Rows.{Lists}

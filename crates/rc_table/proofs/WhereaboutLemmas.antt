@@ -6,13 +6,13 @@ use Rattle.std.proofs.lemmas.List.{get_or-set_same, get_or-set_other, get_or-dro
 use Rattle.std.proofs.lemmas.List.Elements.{All-get_or, All-nil}
 use Rattle.std.proofs.lemmas.List.FromFn.{get_or-map-range_with_len, fill_by_all, length-map-range_with_len}
 use Rattle.std.proofs.lemmas.Option.{slice_get-get_or}
-use Rattle.rc_sheet_model.specs.Sheet.{game_class, vloc}
-use Rattle.rc_play_model.specs.Shape.{Shape, holds_references}
-use Rattle.rc_play_model.specs.Table.{Table, IsSound, list_at, place_of}
-use Rattle.rc_play_model.specs.Bound.{HoldsCards, HoldsReferences}
-use Rattle.rc_play_model.proofs.FoundLemmas.{found, index_found}
+use Rattle.rc_sheet_spec.specs.Sheet.{game_class, vloc}
+use Rattle.rc_play_spec.specs.Shape.{Shape, holds_references}
+use Rattle.rc_play_spec.specs.Table.{Table, IsSound, list_at, place_of}
+use Rattle.rc_play_spec.specs.Bound.{HoldsCards, HoldsReferences}
+use Rattle.rc_play_spec.proofs.FoundLemmas.{found, index_found}
 use Rattle.rc_table.specs.Whereabouts.{whereabouts, noted, noted_in}
-use Rattle.rc_play_model.proofs.OnePlace.{is_card, one_place}
+use Rattle.rc_play_spec.proofs.OnePlace.{is_card, one_place}
 
 -- where nothing stands
 abbrev pub nowhere : ℕ × ℕ

@@ -1,8 +1,8 @@
 -- A table with the shape that it is laid for: what contracts see of a table.
 use Rattle.std.specs.Prelude.{◌≡◌, ℕ, List, if◌then◌else◌, length, map, Option, Some}
-use Rattle.rc_model.specs.Limits.{most_in_mem}
-use Rattle.rc_play_model.specs.Shape.{Place as PurePlace, Shape as PureShape, holds_references}
-use Rattle.rc_play_model.specs.Table.{Table as PureTable, IsSound}
+use Rattle.rc_base.specs.Limits.{most_in_mem}
+use Rattle.rc_play_spec.specs.Shape.{Place as PurePlace, Shape as PureShape, holds_references}
+use Rattle.rc_play_spec.specs.Table.{Table as PureTable, IsSound}
 use Rattle.rc_table.specs.Shape.{IsShape}
 use Rattle.rc_table.specs.Whereabouts.{whereabouts}
 

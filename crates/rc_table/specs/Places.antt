@@ -1,7 +1,7 @@
 -- Locations as the definitions of play have them.
 use Rattle.std.specs.Prelude.{ℕ}
-use Rattle.rc_sheet_model.specs.Sheet.{Class, game_class, player_class, team_class}
-use Rattle.rc_play_model.specs.Shape.{Place as PurePlace}
+use Rattle.rc_sheet_spec.specs.Sheet.{Class, game_class, player_class, team_class}
+use Rattle.rc_play_spec.specs.Shape.{Place as PurePlace}
 use Rattle.rc_table.specs.declared.place.Owner.{Owner}
 use Rattle.rc_table.specs.declared.place.Owner.TheVariants.{Game, Player, Team}
 use Rattle.rc_table.specs.declared.place.Place.{Place}

@@ -1,6 +1,6 @@
 -- Locations that are filled anew, each with as many ids as it has.
 use Rattle.std.specs.Prelude.{◌≡◌, ℕ, ◌<◌, ◌≤◌, List, [], ◌∷◌, length, take, drop, slice_index_or, slice_set, Contains}
-use Rattle.rc_play_model.specs.Table.{Table, list_at}
+use Rattle.rc_play_spec.specs.Table.{Table, list_at}
 
 -- the lists where these, one after another, hold the next of the ids
 abbrev pub lists_refilled : List ℕ → List ℕ → List (List ℕ) → List (List ℕ)

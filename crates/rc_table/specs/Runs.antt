@@ -1,10 +1,10 @@
 -- Cards that go together from one location to an end of another, or of the same.
 use Rattle.std.specs.Prelude.{◌≡◌, ℕ, ◌==◌, ◌++◌, Bool, true, false, not, List, [], ◌∷◌, reverse, filter, fold}
 use Rattle.std.specs.Prelude.{slice_index_or, slice_set}
-use Rattle.rc_sheet_model.specs.Sheet.{End, top, bottom}
-use Rattle.rc_play_model.specs.Shape.{Shape}
-use Rattle.rc_play_model.specs.Table.{Table, cleared}
-use Rattle.rc_play_model.specs.Effects.{put}
+use Rattle.rc_sheet_spec.specs.Sheet.{End, top, bottom}
+use Rattle.rc_play_spec.specs.Shape.{Shape}
+use Rattle.rc_play_spec.specs.Table.{Table, cleared}
+use Rattle.rc_play_spec.specs.Effects.{put}
 use Rattle.rc_table.specs.declared.runs.Side.{Side}
 use Rattle.rc_table.specs.declared.runs.Side.TheVariants.{Top, Bottom}
 

@@ -2,12 +2,12 @@
 -- each card begins in a location of cards.
 use Rattle.std.specs.Prelude.{◌≡◌, ℕ, ◌<◌, ◌≤◌, ◌+◌, true, if◌then◌else◌, length, map, List, Option, Some, None, [], ◌∷◌, All}
 use Rattle.std.specs.List.{position_or_len}
-use Rattle.rc_model.specs.Deck.{Face}
-use Rattle.rc_model.specs.Limits.{most_players, most_cards, most_locations, most_numbers}
-use Rattle.rc_sheet_model.specs.Sheet.{Class, game_class, player_class, team_class}
-use Rattle.rc_sheet_model.specs.WellFormed.{is_among, is_mem}
-use Rattle.rc_play_model.specs.Shape.{Place as PurePlace, Shape as PureShape, face_eq}
-use Rattle.rc_play_model.specs.Bound.{HasHomes}
+use Rattle.rc_base.specs.Deck.{Face}
+use Rattle.rc_base.specs.Limits.{most_players, most_cards, most_locations, most_numbers}
+use Rattle.rc_sheet_spec.specs.Sheet.{Class, game_class, player_class, team_class}
+use Rattle.rc_sheet_spec.specs.WellFormed.{is_among, is_mem}
+use Rattle.rc_play_spec.specs.Shape.{Place as PurePlace, Shape as PureShape, face_eq}
+use Rattle.rc_play_spec.specs.Bound.{HasHomes}
 use Rattle.rc_table.specs.Places.{place_seen}
 use Rattle.rc_table.specs.declared.place.Place.{Place}
 

@@ -1,8 +1,8 @@
 -- Where each card of a table stands.
 use Rattle.std.specs.Prelude.{ℕ, ℤ, ◌+◌, if◌then◌else◌, List, [], ◌∷◌, length, map, drop, slice_get, slice_index_or, slice_set}
-use Rattle.rc_model.specs.Numbers.{below}
-use Rattle.rc_play_model.specs.Shape.{Shape, holds_references}
-use Rattle.rc_play_model.specs.Table.{Table, IsSound, place_of}
+use Rattle.rc_base.specs.Numbers.{below}
+use Rattle.rc_play_spec.specs.Shape.{Shape, holds_references}
+use Rattle.rc_play_spec.specs.Table.{Table, IsSound, place_of}
 
 -- each card's location, and its place there
 abbrev pub whereabouts : Shape → Table → List (ℕ × ℕ)

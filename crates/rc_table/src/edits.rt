@@ -1,18 +1,18 @@
 //! What changes a table. None of it takes memory.
 ghost use Rattle.std.specs.Prelude.{◌≡◌, ◌<◌, ◌≤◌, true, length, take, false, All};
 ghost use Rattle.std.specs.List.Sorted.{IsPermutation};
-ghost use Rattle.rc_model.specs.Clamp.{IsWithinClamp};
-ghost use Rattle.rc_model.specs.Numbers.{below};
-ghost use Rattle.rc_play_model.specs.Bound.{HoldsCards, HoldsReferences};
-ghost use Rattle.rc_play_model.specs.Table.{list_at, put_top, put_bottom, remember_top, remember_bottom, has_room, forget_in, place_of, loc_of, set_marks, set_number, taken, reorder};
-ghost use Rattle.rc_play_model.specs.Sees.{sees};
+ghost use Rattle.rc_base.specs.Clamp.{IsWithinClamp};
+ghost use Rattle.rc_base.specs.Numbers.{below};
+ghost use Rattle.rc_play_spec.specs.Bound.{HoldsCards, HoldsReferences};
+ghost use Rattle.rc_play_spec.specs.Table.{list_at, put_top, put_bottom, remember_top, remember_bottom, has_room, forget_in, place_of, loc_of, set_marks, set_number, taken, reorder};
+ghost use Rattle.rc_play_spec.specs.Sees.{sees};
 ghost use Rattle.rc_table.specs.Marks.{seats_in};
 ghost use Rattle.rc_table.specs.Laid.{relaid};
 
 use crate::table::Table;
 use crate::whereabouts::note_top;
-use rc_names::limits::MOST_IN_LIST;
-use rc_play_model::edits_keep_tables_sound;
+use rc_base::limits::MOST_IN_LIST;
+use rc_play_spec::edits_keep_tables_sound;
 
 impl Table {
     /// Takes a card out of its place and puts it on top of a location of cards. It loses its marks.

@@ -1,8 +1,8 @@
 //! Which cards have equal faces, and by which number a face is known.
 ghost use Rattle.std.specs.Prelude.{◌≡◌, ◌<◌, ◌≤◌, length, IfOk};
 ghost use Rattle.std.specs.List.{position_or_len};
-ghost use Rattle.rc_model.specs.Limits.{most_cards};
-ghost use Rattle.rc_play_model.specs.Shape.{face_at, face_eq, face_number as face_number_of};
+ghost use Rattle.rc_base.specs.Limits.{most_cards};
+ghost use Rattle.rc_play_spec.specs.Shape.{face_at, face_eq, face_number as face_number_of};
 ghost use Rattle.rc_table.specs.Shape.{face_numbers_of};
 
 use crate::shape::Shape;

@@ -1,15 +1,15 @@
 //! Where a card is, and how many references there are.
 ghost use Rattle.std.specs.Prelude.{◌≡◌, ◌<◌, nat_lt, if◌then◌else◌, length, slice_get, reverse, remove, Some, MatchOption};
-ghost use Rattle.rc_model.specs.Limits.{most_in_mem, most_references};
-ghost use Rattle.rc_play_model.specs.Shape.{holds_references};
-ghost use Rattle.rc_play_model.specs.Table.{list_at, marks_of, is_marked, place_of, references, has_room, without_face, forget_in};
+ghost use Rattle.rc_base.specs.Limits.{most_in_mem, most_references};
+ghost use Rattle.rc_play_spec.specs.Shape.{holds_references};
+ghost use Rattle.rc_play_spec.specs.Table.{list_at, marks_of, is_marked, place_of, references, has_room, without_face, forget_in};
 ghost use Rattle.rc_table.specs.Marks.{seats_in};
 ghost use Rattle.rc_table.specs.Restored.{taken_at};
 
 use crate::faces::have_same_face;
 use crate::shape::Shape;
 use crate::table::Table;
-use rc_names::limits::{MOST_IN_MEM, MOST_REFERENCES};
+use rc_base::limits::{MOST_IN_MEM, MOST_REFERENCES};
 
 // The last place in a list of a card with this card's face.
 fn topmost(shape: &Shape, list: &[u16], id: u16) -> Option<usize>

@@ -1,6 +1,6 @@
 //! Tables that are laid whole. None of it takes memory.
 ghost use Rattle.std.specs.Prelude.{◌≡◌, length, map};
-ghost use Rattle.rc_play_model.specs.Table.{IsSound};
+ghost use Rattle.rc_play_spec.specs.Table.{IsSound};
 ghost use Rattle.rc_table.specs.Laid.{relaid};
 ghost use Rattle.rc_table.specs.Marks.{seats_in};
 ghost use Rattle.rc_table.specs.Refilled.{CanRefill, refilled, DifferAtMostIn};

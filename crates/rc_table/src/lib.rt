@@ -22,7 +22,7 @@ mod whereabouts;
 
 pub use faces::{face_number, have_same_face};
 pub use place::{Owner, Place};
-pub use rc_names::LocKind as Kind;
+pub use rc_base::LocKind as Kind;
 pub use shape::Shape;
 pub use sight::sees;
 pub use table::Table;

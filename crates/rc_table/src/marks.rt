@@ -1,6 +1,6 @@
 //! For which seats each card is marked.
 ghost use Rattle.std.specs.Prelude.{◌≡◌, ◌<◌, [], false, length, map, replicate, slice_set, All, IfOk};
-ghost use Rattle.rc_play_model.specs.Table.{marks_of, cleared, is_marked};
+ghost use Rattle.rc_play_spec.specs.Table.{marks_of, cleared, is_marked};
 ghost use Rattle.rc_table.specs.Marks.{seats_in};
 
 use rc_deck::Memory;

@@ -1,10 +1,10 @@
 //! One location, and how many of some hold references.
 ghost use Rattle.std.specs.Prelude.{◌≡◌, ◌≤◌, length, map};
-ghost use Rattle.rc_model.specs.Limits.{most_locations};
+ghost use Rattle.rc_base.specs.Limits.{most_locations};
 ghost use Rattle.rc_table.specs.Places.{place_seen};
 ghost use Rattle.rc_table.specs.Shape.{mems_among, mems_here};
 
-use rc_names::LocKind;
+use rc_base::LocKind;
 
 /// Whose a location is: the game's, a player's, or a team's, by their numbers.
 #[derive(Clone, Copy, PartialEq, Eq, Debug)]

@@ -1,7 +1,7 @@
 //! A list of ids for each location.
 ghost use Rattle.std.specs.Prelude.{◌≡◌, ℕ, ◌<◌, ◌≤◌, ◌-◌, [], ◌∷◌, ◌++◌, length, map, take, replicate, slice_index_or, slice_set, IfOk};
 ghost use Rattle.std.specs.List.{remove, insert};
-ghost use Rattle.rc_model.specs.Limits.{most_locations};
+ghost use Rattle.rc_base.specs.Limits.{most_locations};
 ghost use Rattle.rc_table.specs.Rows.{HaveRoom};
 ghost use Rattle.rc_table.specs.Laid.{rooms};
 ghost use Rattle.rc_table.specs.Refilled.{CanRefill, lists_refilled};

@@ -1,17 +1,17 @@
 //! Many cards that are put somewhere else, in one go where they come from one location. None of it takes memory.
 ghost use Rattle.std.specs.Prelude.{◌≡◌, ◌<◌, ◌≤◌, ◌+◌, [], false, length, reverse, take, filter, fold, replicate, All};
 ghost use Rattle.std.specs.Prelude.{slice_index_or};
-ghost use Rattle.rc_model.specs.Limits.{most_in_list};
-ghost use Rattle.rc_play_model.specs.Bound.{HoldsCards};
-ghost use Rattle.rc_play_model.specs.Table.{loc_of, put_top, put_bottom};
+ghost use Rattle.rc_base.specs.Limits.{most_in_list};
+ghost use Rattle.rc_play_spec.specs.Bound.{HoldsCards};
+ghost use Rattle.rc_play_spec.specs.Table.{loc_of, put_top, put_bottom};
 ghost use Rattle.rc_table.specs.Laid.{relaid};
 ghost use Rattle.rc_table.specs.Runs.{end_of, put_each, all_added, is_free, flagged, AreFresh};
 
 use crate::table::Table;
 use crate::whereabouts::note_move;
 use arrayvec::ArrayVec;
-use rc_names::limits::MOST_IN_LIST;
-use rc_play_model::edits_keep_tables_sound;
+use rc_base::limits::MOST_IN_LIST;
+use rc_play_spec::edits_keep_tables_sound;
 
 /// So many cards at least go in one go. Each of fewer is put by itself, which is less work.
 const MANY: usize = 8;

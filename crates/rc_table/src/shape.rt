@@ -1,15 +1,15 @@
 //! The shape of a sheet.
 ghost use Rattle.std.specs.Prelude.{◌≡◌, ◌≤◌, true, length, slice_get, slice_index_or, option_map, IfOk};
-ghost use Rattle.rc_play_model.specs.Shape.{team_at, face_at, holds_references};
+ghost use Rattle.rc_play_spec.specs.Shape.{team_at, face_at, holds_references};
 ghost use Rattle.rc_table.specs.Laid.{room_in};
 ghost use Rattle.rc_table.specs.Places.{place_seen};
 ghost use Rattle.rc_table.specs.Shape.{IsShape, shape_of_parts, face_numbers_of, face_or_none, mems_among};
 
 use crate::faces::face_numbers_of;
 use crate::place::{Place, mems_among};
+use rc_base::LocKind;
+use rc_base::limits::MOST_IN_MEM;
 use rc_deck::{Face, Memory};
-use rc_names::LocKind;
-use rc_names::limits::MOST_IN_MEM;
 use std::alloc::Global;
 use std::marker::Model;
 
@@ -34,7 +34,7 @@ pub struct Shape {
 
 impl Model for Shape {
     ghost use Rattle.std.specs.Coded.{codes};
-    ghost use Rattle.rc_play_model.specs.Shape.{Shape as PureShape};
+    ghost use Rattle.rc_play_spec.specs.Shape.{Shape as PureShape};
 
     ghost Value = { PureShape };
 

@@ -1,11 +1,11 @@
 //! Who sees the cards of a location.
 ghost use Rattle.std.specs.Prelude.{◌≡◌};
-ghost use Rattle.rc_play_model.specs.Sees.{is_owner as is_owner_of, sees as sees_faces};
+ghost use Rattle.rc_play_spec.specs.Sees.{is_owner as is_owner_of, sees as sees_faces};
 ghost use Rattle.rc_table.specs.Places.{class_of, number_of};
 
 use crate::place::Owner;
 use crate::shape::Shape;
-use rc_names::LocKind;
+use rc_base::LocKind;
 
 // Whether a seat is the owner, or a member of the team that is.
 fn is_owner(shape: &Shape, seat: u8, owner: Owner) -> bool

@@ -1,10 +1,10 @@
 //! The table.
 ghost use Rattle.std.specs.Prelude.{◌≡◌, ◌≤◌, length, map, IfOk};
-ghost use Rattle.rc_model.specs.Numbers.{below};
-ghost use Rattle.rc_model.specs.Clamp.{IsWithinClamp};
-ghost use Rattle.rc_model.specs.Limits.{most_in_list};
-ghost use Rattle.rc_play_model.specs.Table.{IsSound, list_at, number_at, at_home, opening};
-ghost use Rattle.rc_play_model.specs.Bound.{HasHomes};
+ghost use Rattle.rc_base.specs.Numbers.{below};
+ghost use Rattle.rc_base.specs.Clamp.{IsWithinClamp};
+ghost use Rattle.rc_base.specs.Limits.{most_in_list};
+ghost use Rattle.rc_play_spec.specs.Table.{IsSound, list_at, number_at, at_home, opening};
+ghost use Rattle.rc_play_spec.specs.Bound.{HasHomes};
 ghost use Rattle.rc_table.specs.Laid.{rooms};
 
 use crate::marks::Marks;
@@ -12,7 +12,7 @@ use crate::rows::Rows;
 use crate::shape::Shape;
 use crate::whereabouts::at_home;
 use rc_deck::Memory;
-use rc_play_model::opening_tables_are_sound;
+use rc_play_spec::opening_tables_are_sound;
 use std::alloc::Global;
 use std::marker::Model;
 use std::sync::Arc;

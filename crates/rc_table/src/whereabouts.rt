@@ -1,7 +1,7 @@
 //! Where each card stands.
 ghost use Rattle.std.specs.Prelude.{◌≡◌, ◌<◌, ◌≤◌, [], ◌∷◌, length, drop, slice_index_or, All, IfOk};
-ghost use Rattle.rc_model.specs.Limits.{most_in_list};
-ghost use Rattle.rc_play_model.specs.Bound.{HoldsCards};
+ghost use Rattle.rc_base.specs.Limits.{most_in_list};
+ghost use Rattle.rc_play_spec.specs.Bound.{HoldsCards};
 ghost use Rattle.rc_table.specs.Shape.{IsShape};
 ghost use Rattle.rc_table.specs.Whereabouts.{AreSound, laid_out, whereabouts, noted, noted_in};
 

@@ -1,10 +1,10 @@
 -- Choices are read into the match that is open.
 use Rattle.std.proofs.Common.{◌≡◌, ℕ, ◌+◌, Bool, List, [], ◌∷◌, ◌++◌, Option, Some, None, refl, ap, ◌∙◌, append_assoc}
-use Rattle.rc_model.specs.Transcript.{Pick, Record}
-use Rattle.rc_text_model.specs.Fields.{◌>>=◌, ◌or_else◌}
-use Rattle.rc_play_model.specs.ItemBounds.{Bound}
-use Rattle.rc_text_model.specs.Lines.{Marked, chosen, chosen_in, other_in, bare}
-use Rattle.rc_text_model.specs.Reading.{Stand, inside, playing, with_pick, noted, take_marked, read_from, or_at}
+use Rattle.rc_base.specs.Transcript.{Pick, Record}
+use Rattle.rc_play_spec.specs.Fields.{◌>>=◌, ◌or_else◌}
+use Rattle.rc_play_spec.specs.ItemBounds.{Bound}
+use Rattle.rc_play_spec.specs.Lines.{Marked, chosen, chosen_in, other_in, bare}
+use Rattle.rc_play_spec.specs.Reading.{Stand, inside, playing, with_pick, noted, take_marked, read_from, or_at}
 
 noted_behind : (front marks : List (List Bound)) (m : Option (List Bound)) → noted (front ++ marks) m ≡ front ++ noted marks m
 noted_behind front marks None = refl

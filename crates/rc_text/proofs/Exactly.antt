@@ -1,10 +1,10 @@
 -- What is read is told by the laws of house texts.
 use Rattle.std.proofs.Common.{◌≡◌, ℕ, ◌+◌, ◌≤◌, Bool, false, List, length, Result, Ok, Err, IfOk, IfErr, IsErrAnd, sym, ap, ◌∙◌, subst}
 use Rattle.std.proofs.lemmas.Result.{err_from_is_err_and}
-use Rattle.rc_text_model.specs.HouseText.{HouseText as PureText, Format, plain, NamedText as PureNamed, unmarked, lines_of, text_in, IsHouseText, IsText}
-use Rattle.rc_text_model.specs.Reading.{read_in}
-use Rattle.rc_text_model.specs.Laws.{ReadIsText, PlainText, TextIsHouseText, LinesAreFew, IsFirstFault}
-use Rattle.rc_text_model.proofs.Fitting.{never_marks}
+use Rattle.rc_play_spec.specs.HouseText.{HouseText as PureText, Format, plain, NamedText as PureNamed, unmarked, lines_of, text_in, IsHouseText, IsText}
+use Rattle.rc_play_spec.specs.Reading.{read_in}
+use Rattle.rc_play_spec.specs.TextLaws.{ReadIsText, PlainText, TextIsHouseText, LinesAreFew, IsFirstFault}
+use Rattle.rc_play_spec.proofs.Fitting.{never_marks}
 use Rattle.rc_text.specs.House.{text_of, house_text_seen, named_seen}
 use Rattle.rc_text.specs.Gives.{Gives, IfTextFault}
 use Rattle.rc_text.specs.declared.house.HouseText.{HouseText}

@@ -1,8 +1,8 @@
 -- The head of a text is read line by line.
 use Rattle.std.proofs.Common.{◌≡◌, ◌≢◌, ℕ, ◌+◌, Bool, List, [], ◌∷◌, ◌++◌, Option, Some, None, Err, refl, sym, ap, ◌∙◌, append-nil}
-use Rattle.rc_text_model.specs.Fields.{◌>>=◌, behind, last}
-use Rattle.rc_text_model.specs.Reading.{before, lines_in, or_at, read_from, take_bytes}
-use Rattle.rc_text_model.proofs.FieldLemmas.{bind_is, behind_only, behind_again}
+use Rattle.rc_play_spec.specs.Fields.{◌>>=◌, behind, last}
+use Rattle.rc_play_spec.specs.Reading.{before, lines_in, or_at, read_from, take_bytes}
+use Rattle.rc_play_spec.proofs.FieldLemmas.{bind_is, behind_only, behind_again}
 
 abbrev Lines : Type 0
 Lines = List (List ℕ)

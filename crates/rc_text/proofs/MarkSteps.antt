@@ -1,10 +1,10 @@
 -- Marks are read one after the other.
 use Rattle.std.proofs.Common.{◌≡◌, ◌≢◌, ℕ, zero, suc, ◌+◌, ◌-◌, ◌<◌, ◌==◌, true, false, eqb-true, List, [], ◌∷◌, ◌++◌, length, Option, Some, None, refl, sym, ap, ◌∙◌, append_assoc, append-nil, arith}
 use Rattle.std.proofs.lemmas.List.{length-append}
-use Rattle.rc_text_model.specs.Fields.{◌>>=◌}
-use Rattle.rc_play_model.specs.ItemBounds.{Bound, player, card, group}
-use Rattle.rc_text_model.specs.Bounds.{mark_text, mark_in, marks_in}
-use Rattle.rc_text_model.proofs.Marks.{mark-only}
+use Rattle.rc_play_spec.specs.Fields.{◌>>=◌}
+use Rattle.rc_play_spec.specs.ItemBounds.{Bound, player, card, group}
+use Rattle.rc_play_spec.specs.Bounds.{mark_text, mark_in, marks_in}
+use Rattle.rc_play_spec.proofs.Marks.{mark-only}
 
 -- what is read behind these marks, and these before it
 abbrev pub behind_marks : List Bound → Option (List Bound) → Option (List Bound)

@@ -4,19 +4,19 @@ use Rattle.std.specs.Prelude.{Vec, option_map}
 use Rattle.std.specs.Global.{Global}
 use Rattle.arrayvec.specs.ArrayVec.{ArrayVec}
 use Rattle.std.proofs.lemmas.List.{length-map}
-use Rattle.rc_model.specs.Transcript.{Pick as PurePick, Record, match_line, shuffles_line, end_line, score_line, standing_line}
+use Rattle.rc_base.specs.Transcript.{Pick as PurePick, Record, match_line, shuffles_line, end_line, score_line, standing_line}
 use Rattle.rc_rules.specs.declared.record.Pick.{Pick}
 use Rattle.rc_rules.specs.declared.record.MatchRecord.{MatchRecord}
 use Rattle.rc_rules.specs.Record.{pick_seen, record_seen, standing_seen}
-use Rattle.rc_play_model.specs.ItemBounds.{Bound as PureBound}
-use Rattle.rc_text_model.specs.Bounds.{mark_text}
-use Rattle.rc_text_model.specs.Lines.{chosen, line_text}
-use Rattle.rc_text_model.specs.HouseText.{first_marks, later_marks, ended_text}
-use Rattle.rc_text_model.specs.TextParts.{picks_text, left_for, record_told, matches_told}
-use Rattle.rc_text_model.specs.HouseText.{naming, text_in}
-use Rattle.rc_text_model.specs.Reading.{lines_in}
-use Rattle.rc_text_model.proofs.LineCuts.{with_end_byte, joined}
-use Rattle.rc_text_model.proofs.SameTexts.{none_left, bare_matches, text_apart}
+use Rattle.rc_play_spec.specs.ItemBounds.{Bound as PureBound}
+use Rattle.rc_play_spec.specs.Bounds.{mark_text}
+use Rattle.rc_play_spec.specs.Lines.{chosen, line_text}
+use Rattle.rc_play_spec.specs.HouseText.{first_marks, later_marks, ended_text}
+use Rattle.rc_play_spec.specs.TextParts.{picks_text, left_for, record_told, matches_told}
+use Rattle.rc_play_spec.specs.HouseText.{naming, text_in}
+use Rattle.rc_play_spec.specs.Reading.{lines_in}
+use Rattle.rc_play_spec.proofs.LineCuts.{with_end_byte, joined}
+use Rattle.rc_play_spec.proofs.SameTexts.{none_left, bare_matches, text_apart}
 use Rattle.rc_rules.specs.Bounds.{bounds_seen}
 use Rattle.rc_rules.specs.Bounds.{match_bounds}
 use Rattle.rc_text.specs.BoundSeen.{all_bounds, AreFor, told_at}

@@ -1,7 +1,7 @@
 -- What stands behind a word.
 use Rattle.std.proofs.Common.{◌≡◌, ℕ, ◌<◌, ◌==◌, Bool, true, false, List, [], ◌∷◌, length, Option, None, refl, arith}
 use Rattle.std.specs.Prelude.{if◌then◌else◌}
-use Rattle.rc_text_model.specs.Fields.{behind}
+use Rattle.rc_play_spec.specs.Fields.{behind}
 
 none_either : (t : Bool) (o : Option (List ℕ)) → o ≡ None → (if t then o else None) ≡ None
 none_either true o none = none

@@ -3,7 +3,7 @@ use Rattle.std.specs.Prelude.{◌≡◌, ℕ, zero, suc, Option, option_map, Lis
 use Rattle.std.specs.Global.{Global}
 use Rattle.arrayvec.specs.ArrayVec.{ArrayVec}
 use Rattle.rc_rules.specs.declared.record.MatchRecord.{MatchRecord}
-use Rattle.rc_play_model.specs.ItemBounds.{Bound as PureBound}
+use Rattle.rc_play_spec.specs.ItemBounds.{Bound as PureBound}
 use Rattle.rc_rules.specs.declared.bound.Bound.{Bound}
 use Rattle.rc_rules.specs.Bounds.{bounds_seen, match_bounds}
 

@@ -2,11 +2,11 @@
 use Rattle.std.specs.Prelude.{ℕ, List, [], ◌∷◌, ◌++◌, map, flat_map, Vec}
 use Rattle.std.specs.Global.{Global}
 use Rattle.arrayvec.specs.ArrayVec.{ArrayVec}
-use Rattle.rc_model.specs.Transcript.{house_text, standing_line}
+use Rattle.rc_base.specs.Transcript.{house_text, standing_line}
 use Rattle.rc_rules.specs.Record.{record_seen, standing_seen}
 use Rattle.rc_rules.specs.declared.record.MatchRecord.{MatchRecord}
-use Rattle.rc_text_model.specs.HouseText.{HouseText as PureText, NamedText as PureNamed}
-use Rattle.rc_text_model.specs.TextParts.{record_told}
+use Rattle.rc_play_spec.specs.HouseText.{HouseText as PureText, NamedText as PureNamed}
+use Rattle.rc_play_spec.specs.TextParts.{record_told}
 use Rattle.rc_rules.specs.Bounds.{match_bounds}
 use Rattle.rc_text.specs.BoundSeen.{all_bounds, AreFor}
 use Rattle.rc_rules.specs.declared.bound.Bound.{Bound}

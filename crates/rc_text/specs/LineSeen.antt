@@ -4,8 +4,8 @@ use Rattle.arrayvec.specs.ArrayVec.{ArrayVec}
 use Rattle.rc_rules.specs.declared.bound.Bound.{Bound}
 use Rattle.rc_rules.specs.declared.record.Pick.{Pick}
 use Rattle.rc_rules.specs.Record.{pick_seen, ending_seen, score_seen, standing_seen}
-use Rattle.rc_play_model.specs.ItemBounds.{Bound as PureBound}
-use Rattle.rc_text_model.specs.Lines.{Line as PureLine, Marked, opening, chosen, shuffled, ending, scored, ranked}
+use Rattle.rc_play_spec.specs.ItemBounds.{Bound as PureBound}
+use Rattle.rc_play_spec.specs.Lines.{Line as PureLine, Marked, opening, chosen, shuffled, ending, scored, ranked}
 use Rattle.rc_rules.specs.Bounds.{bounds_seen}
 use Rattle.rc_text.specs.declared.lines.Line.{Line}
 use Rattle.rc_text.specs.declared.lines.Line.TheVariants.{Opening, Chosen, Shuffled, Ending, Scored, Ranked}

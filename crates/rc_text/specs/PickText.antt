@@ -1,6 +1,6 @@
 -- The numbers of a choice.
 use Rattle.std.specs.Prelude.{ℕ, List, ◌++◌, codes, decimal}
-use Rattle.rc_model.specs.Transcript.{Pick}
+use Rattle.rc_base.specs.Transcript.{Pick}
 
 abbrev pub pick_text : Pick → List ℕ
 pick_text p =

@@ -1,10 +1,10 @@
 -- Places in a text as the definitions of house texts have them, with the marks so far.
 use Rattle.std.specs.Prelude.{◌≡◌, List, [], ◌++◌, length, map}
-use Rattle.rc_model.specs.Transcript.{Record}
+use Rattle.rc_base.specs.Transcript.{Record}
 use Rattle.rc_rules.specs.Record.{record_seen, standing_seen}
-use Rattle.rc_play_model.specs.ItemBounds.{Bound as PureBound}
-use Rattle.rc_text_model.specs.Reading.{Place as PurePlace, headed, playing, told, stopped, scoring, ranking}
-use Rattle.rc_text_model.specs.Reading.{Stand, inside}
+use Rattle.rc_play_spec.specs.ItemBounds.{Bound as PureBound}
+use Rattle.rc_play_spec.specs.Reading.{Place as PurePlace, headed, playing, told, stopped, scoring, ranking}
+use Rattle.rc_play_spec.specs.Reading.{Stand, inside}
 use Rattle.rc_rules.specs.Bounds.{match_bounds}
 use Rattle.rc_text.specs.BoundSeen.{all_bounds, AreFor}
 use Rattle.rc_text.specs.declared.places.Matches.{Matches}

@@ -1,5 +1,5 @@
 //! What an item binds: a mark for each of its variables.
-ghost use Rattle.rc_text_model.specs.Bounds.{mark_in, marks_in};
+ghost use Rattle.rc_play_spec.specs.Bounds.{mark_in, marks_in};
 ghost use Rattle.rc_text.specs.Finds.{Finds};
 ghost use Rattle.std.specs.Prelude.{◌≡◌};
 ghost use Rattle.rc_rules.specs.Bounds.{bound_seen, bounds_seen};

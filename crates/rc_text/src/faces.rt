@@ -1,9 +1,9 @@
 //! The legend: the faces of a sheet by their numbers.
 ghost use Rattle.std.specs.Prelude.{◌≡◌, ◌++◌, codes, flat_map, IfOk, OnOk};
-ghost use Rattle.rc_model.specs.Transcript.{line};
-ghost use Rattle.rc_play_model.specs.Shape.{face_at};
+ghost use Rattle.rc_base.specs.Transcript.{line};
+ghost use Rattle.rc_play_spec.specs.Shape.{face_at};
 ghost use Rattle.rc_ast.specs.Sheet.{sheet_seen};
-ghost use Rattle.rc_text_model.specs.Naming.{legend_of, face_line, pair_text, word_at};
+ghost use Rattle.rc_play_spec.specs.Naming.{legend_of, face_line, pair_text, word_at};
 
 use crate::write::write_words;
 use rc_ast::{Sheet, Word};

@@ -1,12 +1,12 @@
 //! The parts of a text: its lines, and in a line words and numbers in their one spelling.
 ghost use Rattle.std.specs.Prelude.{◌≡◌, ◌<◌, ◌≤◌, ◌^◌, ◌∷◌, [], length, IfSome, IfNone};
-ghost use Rattle.rc_model.specs.Clamp.{largest_number};
-ghost use Rattle.rc_model.specs.Literal.{is_digit};
-ghost use Rattle.rc_text_model.specs.Fields.{behind, digits_to, number_to, number, counted, integer};
-ghost use Rattle.rc_text_model.specs.Reading.{lines_in};
+ghost use Rattle.rc_base.specs.Clamp.{largest_number};
+ghost use Rattle.rc_base.specs.Literal.{is_digit};
+ghost use Rattle.rc_play_spec.specs.Fields.{behind, digits_to, number_to, number, counted, integer};
+ghost use Rattle.rc_play_spec.specs.Reading.{lines_in};
 ghost use Rattle.rc_text.specs.Finds.{Finds};
 
-use rc_names::limits;
+use rc_base::limits;
 
 /// The largest number of a game. The least one is as far below 0.
 const LARGEST_NUMBER: u64 = limits::LARGEST_NUMBER as u64;

@@ -1,10 +1,10 @@
 //! The text of a match, and of a whole house text, in either format.
 ghost use Rattle.std.specs.Prelude.{◌≡◌, ◌++◌, [], map, IfOk, OnOk};
-ghost use Rattle.rc_model.specs.Transcript.{record_text};
+ghost use Rattle.rc_base.specs.Transcript.{record_text};
 ghost use Rattle.rc_rules.specs.Record.{record_seen};
-ghost use Rattle.rc_text_model.specs.HouseText.{naming, text_in};
-ghost use Rattle.rc_text_model.specs.Reading.{lines_in};
-ghost use Rattle.rc_text_model.specs.TextParts.{record_told};
+ghost use Rattle.rc_play_spec.specs.HouseText.{naming, text_in};
+ghost use Rattle.rc_play_spec.specs.Reading.{lines_in};
+ghost use Rattle.rc_play_spec.specs.TextParts.{record_told};
 ghost use Rattle.rc_rules.specs.Bounds.{bounds_seen};
 ghost use Rattle.rc_text.specs.House.{text_of, named_seen, Fits, records_told, parts_of};
 
@@ -13,8 +13,8 @@ use crate::write::{
     write_end, write_match_line, write_picks, write_scores, write_shuffles, write_standings,
 };
 use rc_deck::Memory;
+use rc_play_spec::texts_are_of_lines;
 use rc_rules::{Bounds, MatchRecord, Standing};
-use rc_text_model::texts_are_of_lines;
 use std::alloc::{AllocError, Global};
 
 /// What a whole house text tells.

@@ -1,14 +1,14 @@
 //! The lines of a house text, read.
-ghost use Rattle.rc_text_model.specs.Lines.{line_of, other_in, opening_in, chosen_in, shuffled_in, done_in, limit_in};
-ghost use Rattle.rc_text_model.specs.Lines.{scored_in, ranked_in};
-ghost use Rattle.rc_text_model.specs.Fields.{last};
+ghost use Rattle.rc_play_spec.specs.Lines.{line_of, other_in, opening_in, chosen_in, shuffled_in, done_in, limit_in};
+ghost use Rattle.rc_play_spec.specs.Lines.{scored_in, ranked_in};
+ghost use Rattle.rc_play_spec.specs.Fields.{last};
 ghost use Rattle.rc_text.specs.Finds.{Finds};
 ghost use Rattle.std.specs.Prelude.{◌≡◌, true, IfSome, IsSome};
 ghost use Rattle.rc_text.specs.LineSeen.{line_seen, marked_seen, choice_seen, IsTold, IsBare};
 
 use crate::bounds::bounds_in;
 use crate::fields::{counted_number, integer, number};
-use rc_names::limits::{LARGEST_SEED, MOST_ITEMS, MOST_TURNS};
+use rc_base::limits::{LARGEST_SEED, MOST_ITEMS, MOST_TURNS};
 use rc_rules::{Bounds, Ended, Pick, Score, Standing};
 
 /// A line of a house text behind its head.

@@ -1,7 +1,7 @@
 //! Where a house text stands behind some lines, with what these told.
 ghost use Rattle.std.specs.Prelude.{◌≡◌, ◌++◌, ◌∷◌, [], IfOk, IfSome, OnOk, map};
-ghost use Rattle.rc_text_model.specs.Reading.{headed, playing, told, stopped, scoring, ranking};
-ghost use Rattle.rc_text_model.specs.Reading.{opened, with_pick, noted, take_marked, take_bytes};
+ghost use Rattle.rc_play_spec.specs.Reading.{headed, playing, told, stopped, scoring, ranking};
+ghost use Rattle.rc_play_spec.specs.Reading.{opened, with_pick, noted, take_marked, take_bytes};
 ghost use Rattle.rc_rules.specs.Record.{pick_seen, record_seen, standing_seen};
 ghost use Rattle.rc_text.specs.BoundSeen.{option_seen};
 ghost use Rattle.rc_text.specs.Finds.{Finds};

@@ -1,11 +1,11 @@
 //! Reads a house text of either format, line by line.
 ghost use Rattle.std.specs.Prelude.{◌≡◌, ℕ, ◌+◌, ◌≤◌, Bool, true, List, ◌++◌, [], length, IfOk, IfErr, OnOk, Ok, Err};
-ghost use Rattle.rc_model.specs.Transcript.{house_text, Record};
-ghost use Rattle.rc_play_model.specs.ItemBounds.{Bound};
-ghost use Rattle.rc_text_model.specs.HouseText.{HouseText as ToldText, NamedText as PureNamed, plain, naming, unmarked};
-ghost use Rattle.rc_text_model.specs.HouseText.{lines_of, text_in, IsHouseText, IsText};
-ghost use Rattle.rc_text_model.specs.Reading.{before, lines_in, read_from, read_in};
-ghost use Rattle.rc_text_model.specs.Laws.{IsFirstFault, ReadIsText};
+ghost use Rattle.rc_base.specs.Transcript.{house_text, Record};
+ghost use Rattle.rc_play_spec.specs.ItemBounds.{Bound};
+ghost use Rattle.rc_play_spec.specs.HouseText.{HouseText as ToldText, NamedText as PureNamed, plain, naming, unmarked};
+ghost use Rattle.rc_play_spec.specs.HouseText.{lines_of, text_in, IsHouseText, IsText};
+ghost use Rattle.rc_play_spec.specs.Reading.{before, lines_in, read_from, read_in};
+ghost use Rattle.rc_play_spec.specs.TextLaws.{IsFirstFault, ReadIsText};
 ghost use Rattle.rc_text.specs.House.{text_of, house_text_seen, named_seen, Fits};
 ghost use Rattle.rc_text.specs.Gives.{Gives, IfTextFault};
 ghost use Rattle.rc_text.specs.PlaceSeen.{stand_seen, open_stand, IsFit, StandsFit};
@@ -15,7 +15,7 @@ use crate::house::{HouseText, NamedText};
 use crate::lines::choice_in;
 use crate::places::{Matches, OpenMatch, Progress, take_bytes};
 use rc_deck::Memory;
-use rc_text_model::{faults_are_first, texts_are_of_lines, texts_are_read};
+use rc_play_spec::{faults_are_first, texts_are_of_lines, texts_are_read};
 use std::alloc::Global;
 
 /// Why a text isn't read.

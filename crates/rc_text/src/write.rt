@@ -1,12 +1,12 @@
 //! The lines of a house text. Every line ends with LF.
 ghost use Rattle.std.specs.Prelude.{◌≡◌, ◌<◌, ◌++◌, codes, decimal, string_bytes, map, flat_map, option_map, OnOk};
 ghost use Rattle.std.specs.Fmt.{signed_decimal};
-ghost use Rattle.rc_model.specs.Transcript.{match_line, shuffles_line, end_line, ending_word, score_line};
-ghost use Rattle.rc_model.specs.Transcript.{standing_line};
-ghost use Rattle.rc_text_model.specs.Bounds.{mark_text};
-ghost use Rattle.rc_text_model.specs.Lines.{chosen};
-ghost use Rattle.rc_text_model.specs.HouseText.{ended_text};
-ghost use Rattle.rc_text_model.specs.TextParts.{picks_text};
+ghost use Rattle.rc_base.specs.Transcript.{match_line, shuffles_line, end_line, ending_word, score_line};
+ghost use Rattle.rc_base.specs.Transcript.{standing_line};
+ghost use Rattle.rc_play_spec.specs.Bounds.{mark_text};
+ghost use Rattle.rc_play_spec.specs.Lines.{chosen};
+ghost use Rattle.rc_play_spec.specs.HouseText.{ended_text};
+ghost use Rattle.rc_play_spec.specs.TextParts.{picks_text};
 ghost use Rattle.rc_rules.specs.Bounds.{bound_seen, bounds_seen};
 ghost use Rattle.rc_text.specs.PickText.{pick_text};
 ghost use Rattle.rc_rules.specs.Record.{pick_seen, ending_seen, score_seen, record_seen, standing_seen};

@@ -1,22 +1,22 @@
 -- The trick game is accepted.
 use Rattle.std.proofs.Common.{◌≡◌, ℕ, List, [], ◌∷◌, length, map, None, refl, sym, ap, subst, ◌∙◌, arith}
 use Rattle.std.specs.List.{Contains}
-use Rattle.rc_model.specs.Token.{tokens}
-use Rattle.rc_model.specs.Tree.{Tree}
-use Rattle.rc_model.specs.Spelled.{Spelled}
+use Rattle.rc_base.specs.Token.{tokens}
+use Rattle.rc_base.specs.Tree.{Tree}
+use Rattle.rc_base.specs.Spelled.{Spelled}
 use Rattle.rc_form.specs.FormFault.{IsFormFault}
 use Rattle.rc_form.specs.declared.fault.FormKind.{FormKind}
 use Rattle.rc_form.proofs.SpellingLaws.{Spelled-from_read, Spelled-unique}
 use Rattle.rc_form.proofs.ReadIsFault.{no_fault-from_read}
 use Rattle.rc_form.proofs.AtomsAreRead.{of_atoms-first}
 use Rattle.rc_form.proofs.TopLists.{fits-first}
-use Rattle.rc_sheet_model.specs.Sheet.{Sheet}
-use Rattle.rc_sheet_model.specs.Sight.{IsInSight, IsUnseen}
-use Rattle.rc_faults.specs.SecondFaults.{sheet_fault}
-use Rattle.rc_naming.specs.Naming.{naming_of}
+use Rattle.rc_sheet_spec.specs.Sheet.{Sheet}
+use Rattle.rc_sheet_spec.specs.Sight.{IsInSight, IsUnseen}
+use Rattle.rc_check.specs.SecondFaults.{sheet_fault}
+use Rattle.rc_resolve.specs.Naming.{naming_of}
 use Rattle.rc_sheet.proofs.Accepted.{printable, stands_read, well_read}
-use Rattle.rc_sheet_laws.specs.Accepted.{IsSheetOf}
-use Rattle.rc_sheet_laws.proofs.One.Sheet.{one_well_formed}
+use Rattle.rc_sheet.specs.Accepted.{IsSheetOf}
+use Rattle.rc_sheet.proofs.One.Sheet.{one_well_formed}
 use Rattle.rc_trick.specs.Trick.{trick_text, IsTrickGame}
 use Rattle.rc_trick.proofs.Computed.{trick_form, form_is_read, no_part_fault, sheet_is_read}
 

@@ -1,17 +1,17 @@
 -- The form of the trick game and the sheet that is read off it, computed.
 use Rattle.std.proofs.Common.{◌≡◌, ℕ, List, [], ◌∷◌, Option, Some, None, Ok, refl, ap}
 use Rattle.std.specs.Option.{option_map}
-use Rattle.rc_model.specs.Token.{tokens}
-use Rattle.rc_model.specs.Tree.{Tree, list, nil}
+use Rattle.rc_base.specs.Token.{tokens}
+use Rattle.rc_base.specs.Tree.{Tree, list, nil}
 use Rattle.rc_form.specs.Read.{Reading, read}
-use Rattle.rc_sheet_model.specs.Sheet.{Sheet, Loc}
-use Rattle.rc_sheet_model.specs.Sight.{unseen_locs, IsInSight}
-use Rattle.rc_faults.specs.SecondFaults.{sheet_fault}
-use Rattle.rc_naming.specs.Naming.{naming_of}
-use Rattle.rc_reading.specs.ReadSheet.{setup_form_at, game_parts, sheet_at}
-use Rattle.rc_reading.specs.ReadExpressions.{side_word}
-use Rattle.rc_reading.specs.ReadSetup.{count_at, deck_at, points_at, players_line, deck_line, points_line, line_at}
-use Rattle.rc_reading.specs.ReadNames.{name_at, binder_at, variable_in, owner_at, loc_parts, loc_at, num_parts, num_at, map_at}
+use Rattle.rc_sheet_spec.specs.Sheet.{Sheet, Loc}
+use Rattle.rc_sheet_spec.specs.Sight.{unseen_locs, IsInSight}
+use Rattle.rc_check.specs.SecondFaults.{sheet_fault}
+use Rattle.rc_resolve.specs.Naming.{naming_of}
+use Rattle.rc_sheet.specs.ReadSheet.{setup_form_at, game_parts, sheet_at}
+use Rattle.rc_sheet.specs.ReadExpressions.{side_word}
+use Rattle.rc_sheet.specs.ReadSetup.{count_at, deck_at, points_at, players_line, deck_line, points_line, line_at}
+use Rattle.rc_sheet.specs.ReadNames.{name_at, binder_at, variable_in, owner_at, loc_parts, loc_at, num_parts, num_at, map_at}
 use Rattle.rc_trick.specs.Trick.{trick_text}
 
 -- the first of the lists that are read

@@ -3,9 +3,9 @@ use Rattle.std.proofs.Common.{◌<◌, ◌≤◌, ℕ, [], ◌∷◌, sym, subst
 use Rattle.std.specs.List.{All}
 use Rattle.std.proofs.lemmas.List.Elements.{All-nil, All-cons}
 use Rattle.std.proofs.lemmas.List.FromFn.{length-map-range_with_len, get_or-map-range_with_len}
-use Rattle.rc_play_model.specs.Plan.{Deal, random, rollout}
-use Rattle.rc_plan_model.specs.Limits.{IsWithinLimits, IsStrategyWithin, IsDealWithin}
-use Rattle.rc_plan_model.specs.PlanStands.{later, counted_from}
+use Rattle.rc_play_spec.specs.Plan.{Deal, random, rollout}
+use Rattle.rc_play_spec.specs.Limits.{IsWithinLimits, IsStrategyWithin, IsDealWithin}
+use Rattle.rc_play_spec.specs.PlanStands.{later, counted_from}
 use Rattle.rc_trick.specs.Bench.{bench_plan}
 
 deals_within : (n : ℕ) → n ≤ 1000 → All IsDealWithin (counted_from (record { deal = n; seats = 1000 }) n)

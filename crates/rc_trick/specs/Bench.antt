@@ -1,8 +1,8 @@
 -- What `bench N` plays, and what it writes.
 use Rattle.std.specs.Prelude.{ℕ, Bool, true, false, List, [], ◌∷◌, ◌++◌, length, codes, decimal, flat_map, count_by, sum_by}
-use Rattle.rc_model.specs.Transcript.{Record, Standing, Ending, done, limit, line, standing_line}
-use Rattle.rc_play_model.specs.Plan.{Plan, random, rollout}
-use Rattle.rc_plan_model.specs.PlanStands.{counted_from}
+use Rattle.rc_base.specs.Transcript.{Record, Standing, Ending, done, limit, line, standing_line}
+use Rattle.rc_play_spec.specs.Plan.{Plan, random, rollout}
+use Rattle.rc_play_spec.specs.PlanStands.{counted_from}
 
 -- two seats that pick by chance and two that roll out, over N matches from deal N and seed 1,000 on
 abbrev pub bench_plan : ℕ → Plan

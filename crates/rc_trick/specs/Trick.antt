@@ -1,9 +1,9 @@
 -- The trick game: the text of its form, and its sheet.
 use Rattle.std.specs.Prelude.{ℕ, List, [], ◌∷◌, ◌++◌, codes}
-use Rattle.rc_model.specs.Tree.{Tree}
-use Rattle.rc_model.specs.Spelled.{Spelled}
-use Rattle.rc_sheet_model.specs.Sheet.{Sheet}
-use Rattle.rc_sheet_laws.specs.Accepted.{IsAccepted}
+use Rattle.rc_base.specs.Tree.{Tree}
+use Rattle.rc_base.specs.Spelled.{Spelled}
+use Rattle.rc_sheet_spec.specs.Sheet.{Sheet}
+use Rattle.rc_sheet.specs.Accepted.{IsAccepted}
 
 -- the text
 abbrev pub trick_text : List ℕ

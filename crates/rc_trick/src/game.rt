@@ -1,14 +1,14 @@
 //! The text of the trick game, and the law that it is accepted.
 ghost use Rattle.std.specs.Prelude.{◌≡◌, ◌≤◌, ℕ, List, [], ◌∷◌, length, None};
-ghost use Rattle.rc_model.specs.Tree.{Tree};
-ghost use Rattle.rc_model.specs.Spelled.{Spelled};
-ghost use Rattle.rc_model.specs.Limits.{longest_source};
+ghost use Rattle.rc_base.specs.Tree.{Tree};
+ghost use Rattle.rc_base.specs.Spelled.{Spelled};
+ghost use Rattle.rc_base.specs.Limits.{longest_source};
 ghost use Rattle.rc_form.specs.FormFault.{IsFormFault};
 ghost use Rattle.rc_form.specs.declared.fault.FormKind.{FormKind};
-ghost use Rattle.rc_sheet_model.specs.Sheet.{Sheet};
-ghost use Rattle.rc_sheet_model.specs.Sight.{IsUnseen};
-ghost use Rattle.rc_faults.specs.SecondFaults.{sheet_fault};
-ghost use Rattle.rc_sheet_laws.specs.Accepted.{IsSheetOf};
+ghost use Rattle.rc_sheet_spec.specs.Sheet.{Sheet};
+ghost use Rattle.rc_sheet_spec.specs.Sight.{IsUnseen};
+ghost use Rattle.rc_check.specs.SecondFaults.{sheet_fault};
+ghost use Rattle.rc_sheet.specs.Accepted.{IsSheetOf};
 ghost use Rattle.rc_trick.specs.Trick.{trick_text, IsTrickGame};
 
 /// The text of the trick game.

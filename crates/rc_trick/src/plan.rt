@@ -1,9 +1,9 @@
 //! The plan of the bench.
 ghost use Rattle.std.specs.Prelude.{◌≡◌, ◌≤◌, ◌∷◌, [], length, map, IfOk};
-ghost use Rattle.rc_model.specs.Limits.{most_in_bench};
-ghost use Rattle.rc_play_model.specs.Plan.{random, rollout};
-ghost use Rattle.rc_plan_model.specs.Limits.{IsWithinLimits};
-ghost use Rattle.rc_plan_model.specs.PlanStands.{counted_from};
+ghost use Rattle.rc_base.specs.Limits.{most_in_bench};
+ghost use Rattle.rc_play_spec.specs.Plan.{random, rollout};
+ghost use Rattle.rc_play_spec.specs.Limits.{IsWithinLimits};
+ghost use Rattle.rc_play_spec.specs.PlanStands.{counted_from};
 ghost use Rattle.rc_rules.specs.Plan.{deal_seen, plan_seen, strategy_seen};
 ghost use Rattle.rc_trick.specs.Bench.{bench_plan};
 

@@ -4,7 +4,7 @@ use Rattle.std.specs.List.{fold}
 use Rattle.std.proofs.lemmas.List.{take_more, take_all, map-append}
 use Rattle.std.proofs.lemmas.List.Sums.{fold-append}
 use Rattle.std.specs.List.{best_of as first_best}
-use Rattle.rc_play_model.specs.Value.{beats}
+use Rattle.rc_play_spec.specs.Value.{beats}
 use Rattle.rc_rules.proofs.Elements.{drop_here}
 
 pub sum_more : {C : Type 0} (f : C → ℤ) (cards : List C) (i : ℕ) (c : C) → i < length cards → c ≡ get_or cards i c →

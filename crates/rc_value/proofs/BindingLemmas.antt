@@ -3,11 +3,11 @@ use Rattle.std.proofs.Common.{◌≡◌, ℕ, ◌+◌, ◌≤◌, ◌==◌, Bool
 use Rattle.std.specs.List.{AllByRecursion}
 use Rattle.std.specs.Prelude.{All}
 use Rattle.std.proofs.lemmas.List.Elements.{All-from_recursion}
-use Rattle.rc_sheet_model.specs.Sheet.{player_class, team_class, game_class, CardExpr, card_var, top_card, bottom_card, max_card, min_card, CollExpr, group_var, cards_in, filtered, union_of, known_in, CollExprs, no_coll, coll, IntExpr, literal, number, size_of, sum_of, worth_of, add, subtract, multiply, Test, eq_int, eq_card, eq_attr, eq_who, ne, less, less_eq, more, more_eq, has_value, and_of, or_of, not_of, all_of, any_of, Tests, no_test, test, Domain, each_player, each_card, each_group, Alt, do_alt, if_alt, any_alt, SheetItem, do_item, stage, choice, SheetItems, no_item, item, Sheet}
-use Rattle.rc_sheet_model.specs.Naming.{sort_of}
-use Rattle.rc_sheet_model.specs.Sheet.{card_sort}
-use Rattle.rc_sheet_model.specs.WellFormed.{Around, outside, in_stage, behind, IsCard, IsColl, AreColls, IsInt, IsTest, AreTests, IsRange, IsDomain, IsAlt, AreAlts, IsItem, AreItems, IsWellFormed}
-use Rattle.rc_play_model.specs.Menu.{alts_in_item, alts_in, alts_at}
+use Rattle.rc_sheet_spec.specs.Sheet.{player_class, team_class, game_class, CardExpr, card_var, top_card, bottom_card, max_card, min_card, CollExpr, group_var, cards_in, filtered, union_of, known_in, CollExprs, no_coll, coll, IntExpr, literal, number, size_of, sum_of, worth_of, add, subtract, multiply, Test, eq_int, eq_card, eq_attr, eq_who, ne, less, less_eq, more, more_eq, has_value, and_of, or_of, not_of, all_of, any_of, Tests, no_test, test, Domain, each_player, each_card, each_group, Alt, do_alt, if_alt, any_alt, SheetItem, do_item, stage, choice, SheetItems, no_item, item, Sheet}
+use Rattle.rc_sheet_spec.specs.Naming.{sort_of}
+use Rattle.rc_sheet_spec.specs.Sheet.{card_sort}
+use Rattle.rc_sheet_spec.specs.WellFormed.{Around, outside, in_stage, behind, IsCard, IsColl, AreColls, IsInt, IsTest, AreTests, IsRange, IsDomain, IsAlt, AreAlts, IsItem, AreItems, IsWellFormed}
+use Rattle.rc_play_spec.specs.Menu.{alts_in_item, alts_in, alts_at}
 use Rattle.rc_value.specs.Depth.{card_depth, coll_depth, colls_depth, int_depth, test_depth, tests_depth, domain_depth}
 use Rattle.rc_value.specs.Binding.{range_depth, BindsFew}
 

@@ -4,15 +4,15 @@ use Rattle.std.specs.Prelude.{IfSome}
 use mathlib.Core.Path.{fun_ext}
 use Rattle.std.specs.List.{list_any, list_all}
 use Rattle.rc_deck.proofs.EachLemmas.{any-map}
-use Rattle.rc_sheet_model.specs.Sheet.{player_class, Who, game, current_player, current_team, team_of_current, team_of_var, who_var, Num, NumName, IntExpr, literal, number, Test}
-use Rattle.rc_sheet_model.specs.Naming.{class_of}
-use Rattle.rc_play_model.specs.Owners.{place_among}
-use Rattle.rc_play_model.specs.Shape.{team_at}
-use Rattle.rc_play_model.specs.Scene.{CardValue}
-use Rattle.rc_play_model.specs.Value.{Scene as PureScene, Bind as PureBind, Known, player_bound, player_of, who_value, num_place, number_there, int_value, test_value}
+use Rattle.rc_sheet_spec.specs.Sheet.{player_class, Who, game, current_player, current_team, team_of_current, team_of_var, who_var, Num, NumName, IntExpr, literal, number, Test}
+use Rattle.rc_sheet_spec.specs.Naming.{class_of}
+use Rattle.rc_play_spec.specs.Owners.{place_among}
+use Rattle.rc_play_spec.specs.Shape.{team_at}
+use Rattle.rc_play_spec.specs.Scene.{CardValue}
+use Rattle.rc_play_spec.specs.Value.{Scene as PureScene, Bind as PureBind, Known, player_bound, player_of, who_value, num_place, number_there, int_value, test_value}
 use Rattle.rc_flow.specs.Reads.{reads_who}
 use Rattle.rc_flow.proofs.Unread.{other_place}
-use Rattle.rc_asked.specs.declared.atoms.Comparator.{Comparator}
+use Rattle.rc_code.specs.declared.atoms.Comparator.{Comparator}
 use Rattle.rc_value.specs.declared.comparing.Suited.{Suited}
 use Rattle.rc_value.specs.Comparing.{compare, number_held, suits, ArePaired, IsHisNumber, IsSameForAll, IsSuited}
 use Rattle.rc_value.proofs.HoldingLemmas.{his}

@@ -1,8 +1,8 @@
 -- Who is current inside one more stage.
 use Rattle.std.proofs.Common.{◌≡◌, ℕ, ◌+◌, ◌<◌, List, [], ◌∷◌, ◌++◌, length, get_or, take, if◌then◌else◌, refl, sym, ap, ◌∙◌}
 use Rattle.std.proofs.lemmas.List.{take_more}
-use Rattle.rc_sheet_model.specs.Sheet.{Class, player_class, team_class, Sheet}
-use Rattle.rc_play_model.specs.Owners.{current_in, is_stage_of}
+use Rattle.rc_sheet_spec.specs.Sheet.{Class, player_class, team_class, Sheet}
+use Rattle.rc_play_spec.specs.Owners.{current_in, is_stage_of}
 use Rattle.rc_rules.specs.Control.{frames_seen}
 use Rattle.rc_rules.specs.declared.control.Frame.{Frame}
 use Rattle.rc_rules.proofs.StageLemmas.{current_in_last}

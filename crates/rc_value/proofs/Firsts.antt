@@ -5,8 +5,8 @@ use Rattle.std.specs.List.{cons_option}
 use Rattle.std.proofs.lemmas.Bool.Decides.{nat_tests}
 use Rattle.std.proofs.lemmas.List.{take_more, take_all}
 use Rattle.std.proofs.lemmas.List.Elements.{filter-append, filter_map-append}
-use Rattle.rc_sheet_model.specs.WellFormed.{is_among}
-use Rattle.rc_play_model.specs.Value.{firsts}
+use Rattle.rc_sheet_spec.specs.WellFormed.{is_among}
+use Rattle.rc_play_spec.specs.Value.{firsts}
 use Rattle.rc_value.specs.Groups.{noted_in}
 
 abbrev others : ℕ → List ℕ → List ℕ

@@ -4,11 +4,11 @@ use Rattle.std.specs.Prelude.{IfSome}
 use mathlib.Core.Path.{fun_ext}
 use Rattle.std.specs.List.{list_any, list_all}
 use Rattle.std.specs.Ordering.{int_eq}
-use Rattle.rc_model.specs.Numbers.{below}
-use Rattle.rc_sheet_model.specs.Sheet.{player_class, LocName, who_var, Loc, Test, CollExpr, cards_in, IntExpr, size_of, literal, eq_int, all_of, each_player}
-use Rattle.rc_play_model.specs.Owners.{place_among}
-use Rattle.rc_play_model.specs.Scene.{CardValue}
-use Rattle.rc_play_model.specs.Value.{Scene as PureScene, Bind as PureBind, player_bound, player_of, cards_there, cut, coll_value, int_value, test_value}
+use Rattle.rc_base.specs.Numbers.{below}
+use Rattle.rc_sheet_spec.specs.Sheet.{player_class, LocName, who_var, Loc, Test, CollExpr, cards_in, IntExpr, size_of, literal, eq_int, all_of, each_player}
+use Rattle.rc_play_spec.specs.Owners.{place_among}
+use Rattle.rc_play_spec.specs.Scene.{CardValue}
+use Rattle.rc_play_spec.specs.Value.{Scene as PureScene, Bind as PureBind, player_bound, player_of, cards_there, cut, coll_value, int_value, test_value}
 use Rattle.rc_value.specs.declared.players.Holding.{Holding}
 use Rattle.rc_value.specs.Holding.{holds, size_held, IsCompared, IsHisOwn, IsHolding}
 use Rattle.std.proofs.lemmas.List.{drop_all}

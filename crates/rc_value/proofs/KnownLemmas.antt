@@ -5,14 +5,14 @@ use Rattle.std.specs.List.{list_any}
 use Rattle.std.proofs.lemmas.Bool.Decides.{Decides-eqb}
 use Rattle.std.proofs.lemmas.List.{length-map, take_all}
 use Rattle.std.proofs.lemmas.List.Elements.{All-head, All-tail}
-use Rattle.rc_sheet_model.specs.Sheet.{Class, LocKind, vloc, iloc, hloc, mem}
-use Rattle.rc_sheet_model.specs.WellFormed.{is_mem}
-use Rattle.rc_play_model.specs.Owners.{mover}
-use Rattle.rc_play_model.specs.Shape.{Place, Shape, holds_references}
-use Rattle.rc_play_model.specs.Sees.{sees_kind, sees_place, sees}
-use Rattle.rc_play_model.specs.Table.{AreSeats, is_marked, list_at}
-use Rattle.rc_play_model.specs.Scene.{held, value_in, seen_of}
-use Rattle.rc_play_model.specs.Value.{cut}
+use Rattle.rc_sheet_spec.specs.Sheet.{Class, LocKind, vloc, iloc, hloc, mem}
+use Rattle.rc_sheet_spec.specs.WellFormed.{is_mem}
+use Rattle.rc_play_spec.specs.Owners.{mover}
+use Rattle.rc_play_spec.specs.Shape.{Place, Shape, holds_references}
+use Rattle.rc_play_spec.specs.Sees.{sees_kind, sees_place, sees}
+use Rattle.rc_play_spec.specs.Table.{AreSeats, is_marked, list_at}
+use Rattle.rc_play_spec.specs.Scene.{held, value_in, seen_of}
+use Rattle.rc_play_spec.specs.Value.{cut}
 use Rattle.rc_ast.specs.Sheet.{sheet_seen}
 use Rattle.rc_rules.specs.Control.{frames_seen}
 use Rattle.rc_value.specs.declared.scene.Scene.{Scene}

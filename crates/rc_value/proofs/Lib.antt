@@ -12,3 +12,16 @@ pub mod ComparingLemmas
 pub mod CurrentLemmas
 pub mod AtomLemmas
 pub mod KnownLemmas
+pub mod Innermost
+pub mod Readings
+pub mod EffectRows
+pub mod Orders
+pub mod MemberLemmas
+pub mod FrameEnds
+pub mod StageLemmas
+pub mod OwnerLemmas
+pub mod ScoreLemmas
+pub mod ShownLemmas
+pub mod PeekLemmas
+pub mod HeldLemmas
+pub mod EffectSteps

@@ -3,13 +3,13 @@ use Rattle.std.proofs.Common.{◌≡◌, ℕ, ◌≤◌, ◌-◌, suc, Bool, tru
 use mathlib.Core.Path.{fun_ext}
 use Rattle.std.specs.List.{list_any, list_all, filter}
 use Rattle.std.proofs.lemmas.List.{length-map, take_all}
-use Rattle.rc_model.specs.Numbers.{below}
-use Rattle.rc_model.specs.Deck.{value_at}
+use Rattle.rc_base.specs.Numbers.{below}
+use Rattle.rc_base.specs.Deck.{value_at}
 use Rattle.rc_deck.proofs.EachLemmas.{any-map}
-use Rattle.rc_play_model.specs.Ends.{last_of}
-use Rattle.rc_play_model.specs.Scene.{CardValue, held, id_of, value_in}
-use Rattle.rc_play_model.specs.Shape.{face_at}
-use Rattle.rc_play_model.specs.Value.{attr_of_any, cut, worth, worth_of_any}
+use Rattle.rc_play_spec.specs.Ends.{last_of}
+use Rattle.rc_play_spec.specs.Scene.{CardValue, held, id_of, value_in}
+use Rattle.rc_play_spec.specs.Shape.{face_at}
+use Rattle.rc_play_spec.specs.Value.{attr_of_any, cut, worth, worth_of_any}
 use Rattle.rc_rules.specs.Lookup.{rows_seen, value_row}
 use Rattle.rc_rules.proofs.Rows.{in_row, row_below}
 use Rattle.rc_value.specs.declared.scene.Scene.{Scene}

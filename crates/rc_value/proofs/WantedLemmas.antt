@@ -5,17 +5,17 @@ use mathlib.Core.Path.{fun_ext}
 use Rattle.std.specs.List.{list_any, list_all}
 use Rattle.std.proofs.lemmas.Bool.Decides.{nat_tests}
 use Rattle.rc_deck.proofs.EachLemmas.{any-map}
-use Rattle.rc_sheet_model.specs.Sheet.{Loc, LocName, CardExpr, card_var, top_card, CollExpr, cards_in, Test, eq_attr, eq_card, has_value}
-use Rattle.rc_sheet_model.specs.Naming.{class_of}
-use Rattle.rc_play_model.specs.Owners.{place_among}
-use Rattle.rc_play_model.specs.Scene.{CardValue}
-use Rattle.rc_play_model.specs.Value.{Scene as PureScene, Bind as PureBind, card_bound, player_bound, both, nat_same, card_of, attr_of_any, cards_there, cut, last_of, card_value, coll_value, test_value}
+use Rattle.rc_sheet_spec.specs.Sheet.{Loc, LocName, CardExpr, card_var, top_card, CollExpr, cards_in, Test, eq_attr, eq_card, has_value}
+use Rattle.rc_sheet_spec.specs.Naming.{class_of}
+use Rattle.rc_play_spec.specs.Owners.{place_among}
+use Rattle.rc_play_spec.specs.Scene.{CardValue}
+use Rattle.rc_play_spec.specs.Value.{Scene as PureScene, Bind as PureBind, card_bound, player_bound, both, nat_same, card_of, attr_of_any, cards_there, cut, last_of, card_value, coll_value, test_value}
 use Rattle.rc_flow.specs.Reads.{reads_card}
 use Rattle.rc_flow.proofs.Unread.{unread_card}
 use Rattle.rc_value.specs.declared.wanted.WantedValue.{WantedValue}
 use Rattle.rc_value.specs.Wanted.{wanted_value, IsFixed, IsFixedCollection, IsFixedOwner, IsWanted, IsWantedAt}
 use Rattle.rc_value.specs.Sought.{has_face}
-use Rattle.rc_play_model.specs.Shape.{face_eq}
+use Rattle.rc_play_spec.specs.Shape.{face_eq}
 use Rattle.rc_value.proofs.Steps.{all-map}
 
 pub at_end : {B : Type 0} (vars : List B) (m : B) → slice_get (vars ++ m ∷ []) (length vars) ≡ Some m

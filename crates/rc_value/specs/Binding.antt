@@ -1,9 +1,9 @@
 -- Statements of laws: in a well formed sheet at most four variables are bound around any place.
 use Rattle.std.specs.Prelude.{ℕ, ◌+◌, ◌≤◌, max, All}
-use Rattle.rc_model.specs.Limits.{most_variables}
-use Rattle.rc_sheet_model.specs.Sheet.{CardExpr, CollExpr, IntExpr, Test, Domain, each_player, each_card, each_group, Alt, do_alt, if_alt, any_alt, Sheet}
-use Rattle.rc_sheet_model.specs.WellFormed.{Around, IsCard, IsColl, IsInt, IsTest, IsRange, IsDomain, IsAlt, IsWellFormed}
-use Rattle.rc_play_model.specs.Menu.{alts_at}
+use Rattle.rc_base.specs.Limits.{most_variables}
+use Rattle.rc_sheet_spec.specs.Sheet.{CardExpr, CollExpr, IntExpr, Test, Domain, each_player, each_card, each_group, Alt, do_alt, if_alt, any_alt, Sheet}
+use Rattle.rc_sheet_spec.specs.WellFormed.{Around, IsCard, IsColl, IsInt, IsTest, IsRange, IsDomain, IsAlt, IsWellFormed}
+use Rattle.rc_play_spec.specs.Menu.{alts_at}
 use Rattle.rc_value.specs.Depth.{card_depth, coll_depth, int_depth, test_depth, domain_depth}
 
 -- how many variables the domain of an alternative binds inside one another

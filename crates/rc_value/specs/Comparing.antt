@@ -1,12 +1,12 @@
 -- Tests of all players that compare a number of each with one that is the same for all.
 use Rattle.std.specs.Prelude.{◌≡◌, ℕ, ℤ, int_lt, int_le, ◌++◌, ◌∷◌, [], Bool, List, length, map}
 use Rattle.std.specs.Ordering.{int_eq}
-use Rattle.rc_sheet_model.specs.Sheet.{player_class, IntExpr, Test}
-use Rattle.rc_play_model.specs.Owners.{place_among}
-use Rattle.rc_play_model.specs.Value.{Scene as PureScene, Bind as PureBind, player_bound, number_there, int_value, test_value}
-use Rattle.rc_play_model.specs.Scene.{CardValue}
-use Rattle.rc_asked.specs.declared.atoms.Comparator.{Comparator}
-use Rattle.rc_asked.specs.declared.atoms.Comparator.TheVariants.{Equal, Less, AtMost, More, AtLeast}
+use Rattle.rc_sheet_spec.specs.Sheet.{player_class, IntExpr, Test}
+use Rattle.rc_play_spec.specs.Owners.{place_among}
+use Rattle.rc_play_spec.specs.Value.{Scene as PureScene, Bind as PureBind, player_bound, number_there, int_value, test_value}
+use Rattle.rc_play_spec.specs.Scene.{CardValue}
+use Rattle.rc_code.specs.declared.atoms.Comparator.{Comparator}
+use Rattle.rc_code.specs.declared.atoms.Comparator.TheVariants.{Equal, Less, AtMost, More, AtLeast}
 use Rattle.rc_value.specs.declared.comparing.Suited.{Suited}
 
 -- whether a number compares so with another

@@ -1,10 +1,10 @@
 -- Tests of all players that ask how many cards each of them has.
 use Rattle.std.specs.Prelude.{◌≡◌, ℕ, ◌++◌, ◌∷◌, [], Bool, List, length, map, pos}
 use Rattle.std.specs.Ordering.{int_eq}
-use Rattle.rc_sheet_model.specs.Sheet.{player_class, CollExpr, IntExpr, Test}
-use Rattle.rc_play_model.specs.Owners.{place_among}
-use Rattle.rc_play_model.specs.Value.{Scene as PureScene, Bind as PureBind, player_bound, cards_there, coll_value, cut, int_value, test_value}
-use Rattle.rc_play_model.specs.Scene.{CardValue}
+use Rattle.rc_sheet_spec.specs.Sheet.{player_class, CollExpr, IntExpr, Test}
+use Rattle.rc_play_spec.specs.Owners.{place_among}
+use Rattle.rc_play_spec.specs.Value.{Scene as PureScene, Bind as PureBind, player_bound, cards_there, coll_value, cut, int_value, test_value}
+use Rattle.rc_play_spec.specs.Scene.{CardValue}
 use Rattle.rc_value.specs.declared.players.Holding.{Holding}
 
 -- how many cards a player has in his location of a name

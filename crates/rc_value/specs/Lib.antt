@@ -11,3 +11,11 @@ pub mod Wanted
 pub mod Sought
 pub mod Holding
 pub mod Comparing
+pub mod Innermost
+pub mod Point
+pub mod Under
+pub mod Context
+pub mod Leads
+pub mod Bindings
+pub mod Shown
+pub mod Held

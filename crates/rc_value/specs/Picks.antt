@@ -1,9 +1,9 @@
 -- Collections that are gathered, and what is taken of a collection.
 use Rattle.std.specs.Prelude.{Bool, true, false, List, int_lt, Option}
-use Rattle.rc_sheet_model.specs.Sheet.{CollExpr, group_var, cards_in, filtered, union_of, known_in}
-use Rattle.rc_play_model.specs.Value.{Scene, best_of, int_more, worth}
-use Rattle.rc_play_model.specs.Ends.{first_of, last_of}
-use Rattle.rc_play_model.specs.Scene.{CardValue}
+use Rattle.rc_sheet_spec.specs.Sheet.{CollExpr, group_var, cards_in, filtered, union_of, known_in}
+use Rattle.rc_play_spec.specs.Value.{Scene, best_of, int_more, worth}
+use Rattle.rc_play_spec.specs.Ends.{first_of, last_of}
+use Rattle.rc_play_spec.specs.Scene.{CardValue}
 use Rattle.rc_value.specs.declared.loops.Which.{Which}
 use Rattle.rc_value.specs.declared.loops.Which.TheVariants.{Top, Bottom, Max, Min}
 

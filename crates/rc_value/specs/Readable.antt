@@ -1,10 +1,10 @@
 -- What a well formed sheet keeps that values rest on.
 use Rattle.std.specs.Prelude.{ℕ, ◌≤◌, sum_by, All}
-use Rattle.rc_model.specs.Clamp.{IsWithinClamp}
-use Rattle.rc_model.specs.Limits.{most_locations, most_numbers}
-use Rattle.rc_sheet_model.specs.Sheet.{Sheet}
-use Rattle.rc_sheet_model.specs.WellFormed.{owner_count}
-use Rattle.rc_play_model.specs.Menu.{alts_at}
+use Rattle.rc_base.specs.Clamp.{IsWithinClamp}
+use Rattle.rc_base.specs.Limits.{most_locations, most_numbers}
+use Rattle.rc_sheet_spec.specs.Sheet.{Sheet}
+use Rattle.rc_sheet_spec.specs.WellFormed.{owner_count}
+use Rattle.rc_play_spec.specs.Menu.{alts_at}
 use Rattle.rc_value.specs.Binding.{BindsFew}
 
 -- locations, numbers and points are within their limits, and alternatives bind few variables

@@ -1,7 +1,7 @@
 -- Scopes and collections as the definitions have them.
 use Rattle.std.specs.Prelude.{ℕ, List, map, Option, Some, None}
-use Rattle.rc_play_model.specs.Value.{Bind as PureBind, player_bound, card_bound, group_bound}
-use Rattle.rc_play_model.specs.Scene.{CardValue, held, noted}
+use Rattle.rc_play_spec.specs.Value.{Bind as PureBind, player_bound, card_bound, group_bound}
+use Rattle.rc_play_spec.specs.Scene.{CardValue, held, noted}
 use Rattle.rc_value.specs.declared.scope.Bind.{Bind}
 use Rattle.rc_value.specs.declared.scope.Bind.TheVariants.{Player, Card as CardBind, Group}
 use Rattle.rc_value.specs.declared.collection.Listing.{Listing}

@@ -1,9 +1,9 @@
 -- What is sought in cards.
 use Rattle.std.specs.Prelude.{◌≡◌, ◌++◌, ◌∷◌, [], not, Bool, if◌then◌else◌, List, Option, Some, option_map}
-use Rattle.rc_sheet_model.specs.Sheet.{Test}
-use Rattle.rc_play_model.specs.Shape.{face_eq}
-use Rattle.rc_play_model.specs.Value.{Scene as PureScene, Bind as PureBind, card_bound, both, test_value}
-use Rattle.rc_play_model.specs.Scene.{CardValue}
+use Rattle.rc_sheet_spec.specs.Sheet.{Test}
+use Rattle.rc_play_spec.specs.Shape.{face_eq}
+use Rattle.rc_play_spec.specs.Value.{Scene as PureScene, Bind as PureBind, card_bound, both, test_value}
+use Rattle.rc_play_spec.specs.Scene.{CardValue}
 use Rattle.rc_value.specs.Cards.{value_seen}
 use Rattle.rc_value.specs.Wanted.{wanted_value, turned}
 use Rattle.rc_value.specs.declared.sought.Likeness.{Likeness}

@@ -1,8 +1,8 @@
 -- Values that cards are to have.
 use Rattle.std.specs.Prelude.{◌≡◌, ℕ, ◌++◌, ◌∷◌, [], not, Bool, if◌then◌else◌, List, length, Option}
-use Rattle.rc_sheet_model.specs.Sheet.{Who, CardExpr, CollExpr, Test}
-use Rattle.rc_play_model.specs.Value.{Scene as PureScene, Bind as PureBind, card_bound, attr_of, both, nat_same, who_value, card_value, coll_value, test_value, Known}
-use Rattle.rc_play_model.specs.Scene.{CardValue}
+use Rattle.rc_sheet_spec.specs.Sheet.{Who, CardExpr, CollExpr, Test}
+use Rattle.rc_play_spec.specs.Value.{Scene as PureScene, Bind as PureBind, card_bound, attr_of, both, nat_same, who_value, card_value, coll_value, test_value, Known}
+use Rattle.rc_play_spec.specs.Scene.{CardValue}
 use Rattle.rc_value.specs.declared.wanted.WantedValue.{WantedValue}
 
 -- whether a value for the attribute is the one that is wanted, or isn't

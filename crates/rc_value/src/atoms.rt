@@ -1,7 +1,7 @@
 //! Comparisons in flat form, which are read off the table with no walk over a tree.
 ghost use Rattle.std.specs.Prelude.{◌≡◌};
-ghost use Rattle.rc_play_model.specs.Value.{int_value, test_value};
-ghost use Rattle.rc_asked.specs.Meaning.{amount_meant, comparison_meant};
+ghost use Rattle.rc_play_spec.specs.Value.{int_value, test_value};
+ghost use Rattle.rc_code.specs.FlatMeaning.{amount_meant, comparison_meant};
 ghost use Rattle.rc_value.specs.Scene.{scene_seen};
 
 use crate::comparing::compare;
@@ -9,7 +9,7 @@ use crate::leaves::{attr_of_id, number_of, worth_of_id};
 use crate::rows::{ids_of, top_id};
 use crate::scene::Scene;
 use crate::scope::Bindings;
-use rc_asked::{Amount, Comparison};
+use rc_code::{Amount, Comparison};
 
 // The number that a flat form stands for.
 #[inline(always)]

@@ -1,10 +1,10 @@
 //! Cards.
 ghost use Rattle.std.specs.Prelude.{◌≡◌, option_map};
-ghost use Rattle.rc_play_model.specs.Scene.{id_of};
+ghost use Rattle.rc_play_spec.specs.Scene.{id_of};
 ghost use Rattle.rc_value.specs.Cards.{value_seen};
 
 use arrayvec::ArrayVec;
-use rc_names::limits::MOST_IN_COLLECTION;
+use rc_base::limits::MOST_IN_COLLECTION;
 
 /// A card, wherever it is, or a reference that was read in a location.
 #[derive(Clone, Copy, PartialEq, Eq, Debug)]

@@ -1,9 +1,9 @@
 //! Collections.
 ghost use Rattle.std.specs.Prelude.{◌≡◌, ◌<◌, ◌≤◌, length, map, Some, slice_index_or, option_map, IfSome};
-ghost use Rattle.rc_model.specs.Limits.{most_in_collection};
+ghost use Rattle.rc_base.specs.Limits.{most_in_collection};
 
 use crate::Card;
-use rc_names::limits::MOST_IN_COLLECTION;
+use rc_base::limits::MOST_IN_COLLECTION;
 use std::marker::Model;
 
 /// Where the cards of a collection stand: in a location, whose number says that it holds references, or in a list of
@@ -22,8 +22,8 @@ pub struct Collection<'s> {
 
 impl<'s> Model for Collection<'s> {
     ghost use Rattle.std.specs.Prelude.{List, ◌≤◌, length};
-    ghost use Rattle.rc_model.specs.Limits.{most_in_collection};
-    ghost use Rattle.rc_play_model.specs.Scene.{CardValue};
+    ghost use Rattle.rc_base.specs.Limits.{most_in_collection};
+    ghost use Rattle.rc_play_spec.specs.Scene.{CardValue};
 
     ghost Value = { List CardValue };
 
@@ -35,9 +35,9 @@ impl<'s> Model for Collection<'s> {
 }
 
 impl<'s> Collection<'s> {
-    ghost use Rattle.rc_play_model.specs.Ends.{first_of, last_of};
-    ghost use Rattle.rc_play_model.specs.Scene.{id_of};
-    ghost use Rattle.rc_play_model.specs.Value.{cut};
+    ghost use Rattle.rc_play_spec.specs.Ends.{first_of, last_of};
+    ghost use Rattle.rc_play_spec.specs.Scene.{id_of};
+    ghost use Rattle.rc_play_spec.specs.Value.{cut};
     ghost use Rattle.rc_value.specs.Seen.{read_in};
     ghost use Rattle.rc_value.specs.Cards.{value_seen, values_seen};
 

@@ -2,8 +2,8 @@
 //! each player no more than his number is looked up.
 ghost use Rattle.std.specs.Prelude.{◌≡◌, not, IfSome, true, false};
 ghost use Rattle.std.specs.List.{list_all, list_any};
-ghost use Rattle.rc_model.specs.Numbers.{below};
-ghost use Rattle.rc_sheet_model.specs.Sheet.{who_var};
+ghost use Rattle.rc_base.specs.Numbers.{below};
+ghost use Rattle.rc_sheet_spec.specs.Sheet.{who_var};
 ghost use Rattle.rc_ast.specs.Names.{num_seen, who_seen};
 ghost use Rattle.rc_ast.specs.Expressions.{int_seen, test_seen};
 ghost use Rattle.rc_flow.specs.Reads.{reads_who};
@@ -13,8 +13,8 @@ ghost use Rattle.rc_value.specs.Scene.{scene_seen};
 use crate::leaves::number_of;
 use crate::scene::Scene;
 use crate::scope::Bindings;
-use rc_asked::Comparator;
 use rc_ast::{Class, IntExpr, Num, Test, Who};
+use rc_code::Comparator;
 
 /// How a player's number of a name is to compare with a number that is the same for all players.
 #[derive(Clone, Copy)]

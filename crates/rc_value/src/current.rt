@@ -1,7 +1,7 @@
 //! Who is current.
 ghost use Rattle.std.specs.Prelude.{◌≡◌, ◌<◌, length, slice_get, slice_index_or, if◌then◌else◌};
-ghost use Rattle.rc_play_model.specs.Owners.{classes_in, is_of_class, is_stage_of};
-ghost use Rattle.rc_sheet_model.specs.Sheet.{player_class, team_class};
+ghost use Rattle.rc_play_spec.specs.Owners.{classes_in, is_of_class, is_stage_of};
+ghost use Rattle.rc_sheet_spec.specs.Sheet.{player_class, team_class};
 ghost use Rattle.rc_ast.specs.Sheet.{sheet_seen};
 ghost use Rattle.rc_rules.specs.Control.{frames_seen};
 ghost use Rattle.rc_value.specs.Current.{IsCurrent};

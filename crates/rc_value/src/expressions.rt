@@ -1,9 +1,9 @@
 //! The values of expressions for cards and numbers.
 ghost use Rattle.std.specs.Prelude.{◌≡◌, ◌+◌, ◌<◌, ◌≤◌, ◌++◌, ◌∷◌, [], map, filter, length, option_map, true};
-ghost use Rattle.rc_model.specs.Limits.{most_in_collection};
-ghost use Rattle.rc_play_model.specs.Ends.{first_of, last_of};
-ghost use Rattle.rc_play_model.specs.Scene.{id_of};
-ghost use Rattle.rc_play_model.specs.Value.{card_value, coll_value, colls_value, int_value, test_value, card_bound, player_bound, attr_of_any, worth_of_any, sum_worth, cut};
+ghost use Rattle.rc_base.specs.Limits.{most_in_collection};
+ghost use Rattle.rc_play_spec.specs.Ends.{first_of, last_of};
+ghost use Rattle.rc_play_spec.specs.Scene.{id_of};
+ghost use Rattle.rc_play_spec.specs.Value.{card_value, coll_value, colls_value, int_value, test_value, card_bound, player_bound, attr_of_any, worth_of_any, sum_worth, cut};
 ghost use Rattle.rc_ast.specs.Expressions.{coll_seen, colls_seen, int_seen, test_seen};
 ghost use Rattle.rc_ast.specs.Expressions.{card_seen};
 ghost use Rattle.rc_value.specs.Cards.{value_seen, values_seen};
@@ -25,7 +25,7 @@ use crate::sought::{count_as_sought, fill_as_sought, keep_as_sought};
 use crate::tests::{sought_of, test_of};
 use crate::{Card, Cards};
 use rc_ast::{CardExpr, CollExpr, IntExpr, Test};
-use rc_names::limits::MOST_IN_COLLECTION;
+use rc_base::limits::MOST_IN_COLLECTION;
 
 /// The cards of a collection, written into an empty list.
 #[cycle(values)]

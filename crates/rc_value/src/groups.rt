@@ -1,8 +1,8 @@
 //! Groups of cards with equal values of an attribute.
 ghost use Rattle.std.specs.Prelude.{◌≡◌, ◌+◌, ◌<◌, ◌≤◌, [], length, filter, filter_map, slice_index_or, Some, if◌then◌else◌, ◌++◌, ◌∷◌};
-ghost use Rattle.rc_model.specs.Limits.{most_in_collection};
-ghost use Rattle.rc_sheet_model.specs.WellFormed.{is_among};
-ghost use Rattle.rc_play_model.specs.Value.{attr_of as attr_value, both, nat_same, firsts};
+ghost use Rattle.rc_base.specs.Limits.{most_in_collection};
+ghost use Rattle.rc_sheet_spec.specs.WellFormed.{is_among};
+ghost use Rattle.rc_play_spec.specs.Value.{attr_of as attr_value, both, nat_same, firsts};
 ghost use Rattle.rc_value.specs.Cards.{value_seen, values_seen};
 ghost use Rattle.rc_value.specs.Groups.{noted_in};
 ghost use Rattle.rc_value.specs.Scene.{scene_seen};
@@ -12,7 +12,7 @@ use crate::leaves::attr_of;
 use crate::scene::Scene;
 use crate::{Card, Cards};
 use arrayvec::ArrayVec;
-use rc_names::limits::MOST_IN_COLLECTION;
+use rc_base::limits::MOST_IN_COLLECTION;
 
 /// Values of an attribute.
 pub type Values = ArrayVec<u16, MOST_IN_COLLECTION>;

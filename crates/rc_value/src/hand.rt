@@ -3,9 +3,9 @@
 //! left to others.
 ghost use Rattle.std.specs.Prelude.{◌≡◌, true, MatchOption, IfSome, int_lt, int_le, option_map, length, pos, Some};
 ghost use Rattle.std.specs.Ordering.{int_eq};
-ghost use Rattle.rc_play_model.specs.Ends.{last_of};
-ghost use Rattle.rc_play_model.specs.Scene.{id_of};
-ghost use Rattle.rc_play_model.specs.Value.{attr_of_any, both, nat_same, worth_of_any, card_value, coll_value, int_value, test_value};
+ghost use Rattle.rc_play_spec.specs.Ends.{last_of};
+ghost use Rattle.rc_play_spec.specs.Scene.{id_of};
+ghost use Rattle.rc_play_spec.specs.Value.{attr_of_any, both, nat_same, worth_of_any, card_value, coll_value, int_value, test_value};
 ghost use Rattle.rc_ast.specs.Expressions.{card_seen, coll_seen, int_seen, test_seen};
 ghost use Rattle.rc_value.specs.Picks.{is_gathered};
 ghost use Rattle.rc_value.specs.Scene.{scene_seen};

@@ -1,16 +1,16 @@
 //! The cards that the current player sees, wherever they are.
 ghost use Rattle.std.specs.Prelude.{◌≡◌, ◌+◌, ◌<◌, ◌≤◌, ◌++◌, ◌∷◌, [], length, map, filter, All, if◌then◌else◌};
-ghost use Rattle.rc_model.specs.Limits.{most_in_collection};
-ghost use Rattle.rc_play_model.specs.Table.{is_marked};
-ghost use Rattle.rc_play_model.specs.Scene.{held};
-ghost use Rattle.rc_play_model.specs.Value.{cut, known_there, loc_place};
+ghost use Rattle.rc_base.specs.Limits.{most_in_collection};
+ghost use Rattle.rc_play_spec.specs.Table.{is_marked};
+ghost use Rattle.rc_play_spec.specs.Scene.{held};
+ghost use Rattle.rc_play_spec.specs.Value.{cut, known_there, loc_place};
 ghost use Rattle.rc_ast.specs.Names.{loc_seen};
 ghost use Rattle.rc_value.specs.Cards.{values_seen};
 ghost use Rattle.rc_value.specs.Scene.{scene_seen};
 
 use crate::leaves::cards_of;
+use crate::lookup::loc_at;
 use crate::loops::fill;
-use crate::places::loc_at;
 use crate::scene::Scene;
 use crate::scope::Bindings;
 use crate::{Card, Cards};

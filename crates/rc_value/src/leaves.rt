@@ -1,17 +1,17 @@
 //! What a scene says of cards, locations and numbers.
 ghost use Rattle.std.specs.Prelude.{◌≡◌, option_map, slice_get, slice_index_or, Option, Some, None, if◌then◌else◌, pos};
-ghost use Rattle.rc_model.specs.Clamp.{IsWithinClamp};
-ghost use Rattle.rc_model.specs.Deck.{value_at as value_at_of};
-ghost use Rattle.rc_play_model.specs.Shape.{face_at, face_eq, holds_references};
-ghost use Rattle.rc_play_model.specs.Scene.{CardValue, id_of};
-ghost use Rattle.rc_play_model.specs.Value.{worth, worth_of_any, attr_of_any, both, loc_place, num_place, number_there, cards_there, cut};
+ghost use Rattle.rc_base.specs.Clamp.{IsWithinClamp};
+ghost use Rattle.rc_base.specs.Deck.{value_at as value_at_of};
+ghost use Rattle.rc_play_spec.specs.Shape.{face_at, face_eq, holds_references};
+ghost use Rattle.rc_play_spec.specs.Scene.{CardValue, id_of};
+ghost use Rattle.rc_play_spec.specs.Value.{worth, worth_of_any, attr_of_any, both, loc_place, num_place, number_there, cards_there, cut};
 ghost use Rattle.rc_ast.specs.Names.{loc_seen, num_seen};
 ghost use Rattle.rc_value.specs.Cards.{value_seen};
 ghost use Rattle.rc_value.specs.Scene.{scene_seen};
 
 use crate::Card;
 use crate::collection::Collection;
-use crate::places::{loc_at, num_at};
+use crate::lookup::{loc_at, num_at};
 use crate::scene::Scene;
 use crate::scope::Bindings;
 use rc_ast::{Loc, Num};

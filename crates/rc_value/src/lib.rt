@@ -1,43 +1,72 @@
-//! What expressions are worth at a table: numbers, tests, cards and collections.
+//! What expressions are worth at a table, and what a machine reads of a match and changes in it, whatever it plays on:
+//! numbers, tests, cards and collections, the members of domains, the frames of open stages, scores and the counts of a
+//! control.
 #![tactic(auto)]
 
 mod arithmetic;
+mod asked;
 mod atoms;
 mod binding;
 mod cards;
+mod change;
 mod collection;
 mod comparing;
+mod context;
+mod counting;
 mod current;
+mod cycling;
 mod expressions;
+mod few;
+mod frames;
 mod groups;
 mod hand;
+mod held;
 mod known;
 mod leaves;
+mod lookup;
 mod loops;
-mod places;
+mod members;
+mod peeking;
 mod players;
+mod reading;
 mod rows;
 mod scene;
 mod scope;
+mod scoring;
+mod shuffles;
 mod sought;
+mod stages;
 mod tests;
 mod wanted;
 
 pub use arithmetic::{clamped_difference, clamped_product, clamped_sum};
+pub use asked::asked_now;
 pub use atoms::comparison_holds;
 pub use binding::expressions_bind_few;
 pub use cards::{Card, Cards};
+pub use change::{Change, changed_number};
 pub use collection::Collection;
+pub use context::{Context, scene_now};
+pub use counting::{count_decision, member_count, new_control};
 pub use current::{Current, current_inside, current_of};
+pub use cycling::{class_of, name_next, turn_round};
 pub use expressions::{card_of, coll_of, int_of};
+pub use few::{FewCards, few_cards_now, sole_card_now};
+pub use frames::{close_frame, open_frame, open_frame_by, pass_frame, pass_frame_by};
 pub use groups::{Values, note_values, regroup, value_at};
 pub use hand::{bare, number_at_hand};
+pub use held::held_among;
 pub use leaves::{attr_of_id, cards_of, value_in};
-pub use places::{loc_at, num_at, who_of};
+pub use lookup::{loc_at, num_at, who_of};
+pub use members::{Member, bare_bind_at, bind_of, member_at};
+pub use peeking::joined_marks;
 pub use players::each_has;
+pub use reading::{card_now, cards_now, int_now, loc_now, num_now, test_now, who_now};
 pub use rows::{ids_of, top_id};
 pub use scene::Scene;
 pub use scope::{Bind, Bindings};
+pub use scoring::{has_ended, has_ended_by, scores_now};
+pub use shuffles::places;
 pub use tests::{test_of, wanted_of};
 pub use wanted::{
     WantedValue, all_met_in, all_one_by_one, equal_at, is_fixed_collection, is_fixed_owner, is_so,

@@ -1,9 +1,9 @@
 //! Loops over the cards of a collection.
 ghost use Rattle.std.specs.Prelude.{◌≡◌, ◌+◌, ◌<◌, ◌++◌, [], ◌≤◌, length, map, fold, pos, ◌+ℤ◌, slice_set, slice_index_or, option_map, int_lt, if◌then◌else◌};
-ghost use Rattle.rc_model.specs.Clamp.{clamped};
-ghost use Rattle.rc_model.specs.Limits.{most_in_collection, most_in_list};
-ghost use Rattle.rc_play_model.specs.Scene.{held};
-ghost use Rattle.rc_play_model.specs.Value.{cut, sum_worth, best_of, int_more, worth};
+ghost use Rattle.rc_base.specs.Clamp.{clamped};
+ghost use Rattle.rc_base.specs.Limits.{most_in_collection, most_in_list};
+ghost use Rattle.rc_play_spec.specs.Scene.{held};
+ghost use Rattle.rc_play_spec.specs.Value.{cut, sum_worth, best_of, int_more, worth};
 ghost use Rattle.rc_value.specs.Cards.{value_seen, values_seen};
 ghost use Rattle.rc_value.specs.Picks.{picked_of};
 ghost use Rattle.rc_value.specs.Scene.{scene_seen};
@@ -12,7 +12,7 @@ use crate::collection::Collection;
 use crate::leaves::worth_of;
 use crate::scene::Scene;
 use crate::{Card, Cards};
-use rc_names::limits::{LARGEST_NUMBER, MOST_IN_COLLECTION};
+use rc_base::limits::{LARGEST_NUMBER, MOST_IN_COLLECTION};
 
 /// Which card of a collection.
 #[derive(Clone, Copy)]

@@ -2,10 +2,10 @@
 //! number of his compares.
 ghost use Rattle.std.specs.Prelude.{◌≡◌, ℕ, ◌≤◌, ◌++◌, ◌∷◌, [], map, IfSome};
 ghost use Rattle.std.specs.List.{list_all, list_any};
-ghost use Rattle.rc_model.specs.Numbers.{below};
-ghost use Rattle.rc_model.specs.Limits.{most_in_list};
-ghost use Rattle.rc_sheet_model.specs.Sheet.{all_of, cards_in, each_player, eq_int, literal, size_of as size_expr, who_var};
-ghost use Rattle.rc_play_model.specs.Value.{player_bound, test_value};
+ghost use Rattle.rc_base.specs.Numbers.{below};
+ghost use Rattle.rc_base.specs.Limits.{most_in_list};
+ghost use Rattle.rc_sheet_spec.specs.Sheet.{all_of, cards_in, each_player, eq_int, literal, size_of as size_expr, who_var};
+ghost use Rattle.rc_play_spec.specs.Value.{player_bound, test_value};
 ghost use Rattle.rc_ast.specs.Names.{loc_seen};
 ghost use Rattle.rc_ast.specs.Expressions.{coll_seen, int_seen, test_seen};
 ghost use Rattle.rc_value.specs.Holding.{holds, size_held, IsCompared, IsHisOwn, IsHolding};

@@ -1,16 +1,16 @@
 //! What stands in a location, read off its row of ids.
 ghost use Rattle.std.specs.Prelude.{◌≡◌, ◌≤◌, length, map, option_map, slice_get};
-ghost use Rattle.rc_model.specs.Limits.{most_in_list};
-ghost use Rattle.rc_play_model.specs.Ends.{first_of, last_of};
-ghost use Rattle.rc_play_model.specs.Scene.{id_of, value_in};
-ghost use Rattle.rc_play_model.specs.Shape.{holds_references};
-ghost use Rattle.rc_play_model.specs.Value.{cards_there, cut, loc_place};
+ghost use Rattle.rc_base.specs.Limits.{most_in_list};
+ghost use Rattle.rc_play_spec.specs.Ends.{first_of, last_of};
+ghost use Rattle.rc_play_spec.specs.Scene.{id_of, value_in};
+ghost use Rattle.rc_play_spec.specs.Shape.{holds_references};
+ghost use Rattle.rc_play_spec.specs.Value.{cards_there, cut, loc_place};
 ghost use Rattle.rc_ast.specs.Names.{loc_seen};
 ghost use Rattle.rc_value.specs.Cards.{value_seen};
 ghost use Rattle.rc_value.specs.Scene.{scene_seen};
 
 use crate::Card;
-use crate::places::loc_at;
+use crate::lookup::loc_at;
 use crate::scene::Scene;
 use crate::scope::Bindings;
 use rc_ast::Loc;

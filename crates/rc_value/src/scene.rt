@@ -26,8 +26,8 @@ pub struct Scene<'s> {
 
 impl<'s> Scene<'s> {
     ghost use Rattle.std.specs.Prelude.{◌≡◌};
-    ghost use Rattle.rc_sheet_model.specs.WellFormed.{IsWellFormed};
-    ghost use Rattle.rc_play_model.specs.Scene.{scene_of};
+    ghost use Rattle.rc_sheet_spec.specs.WellFormed.{IsWellFormed};
+    ghost use Rattle.rc_play_spec.specs.Scene.{scene_of};
     ghost use Rattle.rc_value.specs.Scene.{scene_seen};
 
     /// The scene of a table with these open stages.

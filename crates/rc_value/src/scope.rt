@@ -22,8 +22,8 @@ pub struct Bindings<'g> {
 
 impl<'g> Model for Bindings<'g> {
     ghost use Rattle.std.specs.Prelude.{List, ◌≡◌, ◌≤◌, length, map, take};
-    ghost use Rattle.rc_play_model.specs.Value.{Bind as PureBind};
-    ghost use Rattle.rc_play_model.specs.Scene.{CardValue};
+    ghost use Rattle.rc_play_spec.specs.Value.{Bind as PureBind};
+    ghost use Rattle.rc_play_spec.specs.Scene.{CardValue};
 
     ghost Value = { List (PureBind CardValue) };
 
@@ -36,8 +36,8 @@ impl<'g> Model for Bindings<'g> {
 
 impl<'g> Bindings<'g> {
     ghost use Rattle.std.specs.Prelude.{List};
-    ghost use Rattle.rc_play_model.specs.Value.{Bind as PureBind, player_of, card_of, group_of, cut};
-    ghost use Rattle.rc_play_model.specs.Scene.{CardValue, id_of};
+    ghost use Rattle.rc_play_spec.specs.Value.{Bind as PureBind, player_of, card_of, group_of, cut};
+    ghost use Rattle.rc_play_spec.specs.Scene.{CardValue, id_of};
     ghost use Rattle.rc_value.specs.Seen.{bind_seen};
     ghost use Rattle.rc_value.specs.Cards.{value_seen};
 

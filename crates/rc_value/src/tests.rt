@@ -1,8 +1,8 @@
 //! Whether tests hold.
 ghost use Rattle.std.specs.Prelude.{◌≡◌, ◌+◌, ◌<◌, ◌≤◌, ◌++◌, ◌∷◌, [], map, length, IfSome, true, not};
 ghost use Rattle.std.specs.List.{list_all, list_any};
-ghost use Rattle.rc_model.specs.Numbers.{below};
-ghost use Rattle.rc_play_model.specs.Value.{card_value, test_value, tests_value, card_bound, player_bound, attr_of_any};
+ghost use Rattle.rc_base.specs.Numbers.{below};
+ghost use Rattle.rc_play_spec.specs.Value.{card_value, test_value, tests_value, card_bound, player_bound, attr_of_any};
 ghost use Rattle.rc_ast.specs.Expressions.{test_seen, tests_seen};
 ghost use Rattle.rc_ast.specs.Expressions.{card_seen};
 ghost use Rattle.rc_value.specs.Depth.{card_depth, test_depth, tests_depth, is_single, runs_over_cards};
@@ -14,7 +14,7 @@ use crate::collection::Collection;
 use crate::expressions::{card_of, coll_of, int_of, value_of};
 use crate::hand::test_at_hand;
 use crate::leaves::{are_same, cards_of};
-use crate::places::who_of;
+use crate::lookup::who_of;
 use crate::players::{all_at_once, any_at_once};
 use crate::scene::Scene;
 use crate::scope::{Bind, Bindings};
@@ -132,7 +132,12 @@ fn over_cards(scene: &Scene, scope: &Bindings, expr: &Test) -> bool
 /// A test of the innermost variable's card as a value that the card is to have, if it is one. What the card's value is
 /// compared with doesn't read the variable: so it is taken once for all cards.
 #[cycle(values)]
-pub fn wanted_of(scene: &Scene, scope: &Bindings, inside: &Bindings, test: &Test) -> Option<WantedValue>
+pub fn wanted_of(
+    scene: &Scene,
+    scope: &Bindings,
+    inside: &Bindings,
+    test: &Test,
+) -> Option<WantedValue>
     requires inside { inside.now ≡ scope.now ++ player_bound 0 ∷ [] }
     requires fits { length scope.now + (1 + test_depth (test_seen test.now)) ≤ 5 }
     ensures { IfSome result (IsWanted (scene_seen scene.now) scope.now (test_seen test.now)) }
@@ -158,7 +163,12 @@ pub fn wanted_of(scene: &Scene, scope: &Bindings, inside: &Bindings, test: &Test
 // The same of an opposite.
 #[cycle(values)]
 #[inline(never)]
-fn wanted_not(scene: &Scene, scope: &Bindings, inside: &Bindings, test: &Test) -> Option<WantedValue>
+fn wanted_not(
+    scene: &Scene,
+    scope: &Bindings,
+    inside: &Bindings,
+    test: &Test,
+) -> Option<WantedValue>
     requires inside { inside.now ≡ scope.now ++ player_bound 0 ∷ [] }
     requires fits { length scope.now + (1 + test_depth (test_seen test.now)) ≤ 5 }
     ensures { IfSome result (IsWanted (scene_seen scene.now) scope.now (test_seen test.now)) }
@@ -173,7 +183,12 @@ fn wanted_not(scene: &Scene, scope: &Bindings, inside: &Bindings, test: &Test) -
 // Two values, of which one is the innermost variable's card's.
 #[cycle(values)]
 #[inline(never)]
-fn wanted_against(scene: &Scene, scope: &Bindings, inside: &Bindings, test: &Test) -> Option<WantedValue>
+fn wanted_against(
+    scene: &Scene,
+    scope: &Bindings,
+    inside: &Bindings,
+    test: &Test,
+) -> Option<WantedValue>
     requires inside { inside.now ≡ scope.now ++ player_bound 0 ∷ [] }
     requires fits { length scope.now + (1 + test_depth (test_seen test.now)) ≤ 5 }
     ensures { IfSome result (IsWanted (scene_seen scene.now) scope.now (test_seen test.now)) }

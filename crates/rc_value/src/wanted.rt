@@ -1,8 +1,8 @@
 //! Values that cards are to have.
 ghost use Rattle.std.specs.Prelude.{◌≡◌, ◌+◌, ◌<◌, ◌≤◌, ◌++◌, ◌∷◌, [], true, false, length, filter, option_map, slice_index_or, None, IfSome, if◌then◌else◌};
 ghost use Rattle.std.specs.List.{list_any, list_all};
-ghost use Rattle.rc_model.specs.Limits.{most_in_collection, most_in_list};
-ghost use Rattle.rc_sheet_model.specs.Sheet.{card_var};
+ghost use Rattle.rc_base.specs.Limits.{most_in_collection, most_in_list};
+ghost use Rattle.rc_sheet_spec.specs.Sheet.{card_var};
 ghost use Rattle.rc_ast.specs.Names.{who_seen};
 ghost use Rattle.rc_ast.specs.Expressions.{card_seen, coll_seen, test_seen};
 ghost use Rattle.rc_flow.specs.Reads.{reads_card};

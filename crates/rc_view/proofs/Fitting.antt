@@ -3,17 +3,17 @@ use Rattle.std.proofs.Common.{◌≡◌, ℕ, ◌<◌, ◌≤◌, ◌^◌, ◌==
 use Rattle.std.specs.Prelude.{IfSome}
 use Rattle.std.specs.List.{AllByRecursion, AllZip}
 use Rattle.std.proofs.lemmas.List.Elements.{All-from_recursion, recursion_from_All}
-use Rattle.rc_model.specs.Numbers.{below}
+use Rattle.rc_base.specs.Numbers.{below}
 use Rattle.rc_deck.proofs.EachLemmas.{append_each, parts_of_append}
-use Rattle.rc_sheet_model.specs.Sheet.{SheetItem, do_item, stage, choice, SheetItems, no_item, item, Sheet}
-use Rattle.rc_sheet_model.specs.Lists.{item_list}
-use Rattle.rc_sheet_model.specs.Mentions.{stages_in_item, stages_in}
-use Rattle.rc_sheet_model.specs.WellFormed.{owner_count, IsWellFormed}
-use Rattle.rc_play_model.specs.Control.{Frame}
-use Rattle.rc_play_model.specs.Step.{Stage, Part, todo, round, turn, todos}
-use Rattle.rc_play_model.specs.Decision.{left_in_item, left_in, left_at}
-use Rattle.rc_play_model.specs.Fits.{around, IsFrameOf}
-use Rattle.rc_play_model.proofs.CardLemmas.{numbers_below, get_each}
+use Rattle.rc_sheet_spec.specs.Sheet.{SheetItem, do_item, stage, choice, SheetItems, no_item, item, Sheet}
+use Rattle.rc_sheet_spec.specs.Lists.{item_list}
+use Rattle.rc_sheet_spec.specs.Mentions.{stages_in_item, stages_in}
+use Rattle.rc_sheet_spec.specs.WellFormed.{owner_count, IsWellFormed}
+use Rattle.rc_play_spec.specs.Control.{Frame}
+use Rattle.rc_play_spec.specs.Step.{Stage, Part, todo, round, turn, todos}
+use Rattle.rc_play_spec.specs.Decision.{left_in_item, left_in, left_at}
+use Rattle.rc_play_spec.specs.Fits.{around, IsFrameOf}
+use Rattle.rc_play_spec.proofs.CardLemmas.{numbers_below, get_each}
 use Rattle.rc_rules.proofs.ShapeLemmas.{owners_few}
 use Rattle.rc_view.specs.Laws.{HasFrameKey, FittingControlsHaveKeys}
 

@@ -4,11 +4,11 @@ use Rattle.std.specs.List.{AllByRecursion}
 use Rattle.std.proofs.lemmas.List.{length-map}
 use Rattle.std.proofs.lemmas.List.Elements.{All-from_recursion, recursion_from_All, All-from_get_or}
 use Rattle.std.proofs.lemmas.List.Sums.{prefix_len-le-length}
-use Rattle.rc_play_model.specs.Control.{Control}
-use Rattle.rc_play_model.specs.Shape.{Place, Shape, face_eq, face_at, face_number}
-use Rattle.rc_play_model.specs.Sees.{sees_place}
-use Rattle.rc_play_model.specs.Table.{Table, IsSound, is_marked}
-use Rattle.rc_play_model.specs.View.{Sight, with_faces, partly, known_face, sight_of, sights_of, view_of}
+use Rattle.rc_play_spec.specs.Control.{Control}
+use Rattle.rc_play_spec.specs.Shape.{Place, Shape, face_eq, face_at, face_number}
+use Rattle.rc_play_spec.specs.Sees.{sees_place}
+use Rattle.rc_play_spec.specs.Table.{Table, IsSound, is_marked}
+use Rattle.rc_play_spec.specs.View.{Sight, with_faces, partly, known_face, sight_of, sights_of, view_of}
 use Rattle.rc_table.specs.Shape.{IsShape}
 use Rattle.rc_table.proofs.Held.{few_in_list}
 use Rattle.rc_view.specs.Key.{IsShort, HasKey, known_places}

@@ -5,11 +5,11 @@ use Rattle.std.specs.Int.{to_le_bytes}
 use Rattle.std.specs.List.{AllByRecursion}
 use Rattle.std.proofs.lemmas.List.{append_assoc, append-nil}
 use Rattle.std.proofs.lemmas.List.Elements.{recursion_from_All}
-use Rattle.rc_model.specs.Clamp.{IsWithinClamp}
-use Rattle.rc_play_model.specs.Control.{Control, Frame}
-use Rattle.rc_play_model.specs.Shape.{Place, Shape}
-use Rattle.rc_play_model.specs.Sees.{sees_place}
-use Rattle.rc_play_model.specs.View.{Sight, with_faces, partly, View}
+use Rattle.rc_base.specs.Clamp.{IsWithinClamp}
+use Rattle.rc_play_spec.specs.Control.{Control, Frame}
+use Rattle.rc_play_spec.specs.Shape.{Place, Shape}
+use Rattle.rc_play_spec.specs.Sees.{sees_place}
+use Rattle.rc_play_spec.specs.View.{Sight, with_faces, partly, View}
 use Rattle.rc_view.specs.Key.{number_key, frame_key, control_key, known_places, place_key, sight_key, key_of}
 use Rattle.rc_view.specs.Laws.{HasFrameKey, HasControlKey, IsSightIn, AreSightsIn, IsViewIn, KeysTellViews}
 use Rattle.rc_view.proofs.Telling.{Tells, two_tell, four_tell, numbers_tell, lists_tell, none_told, direction_told}

@@ -8,16 +8,16 @@ use Rattle.std.proofs.lemmas.List.Concat.{length-flat_map}
 use Rattle.std.proofs.lemmas.List.Elements.{recursion_from_All}
 use Rattle.std.proofs.lemmas.List.FromFn.{length-range_with_len}
 use Rattle.std.proofs.lemmas.List.Sums.{sum_by-cons, sum_by-le}
-use Rattle.rc_model.specs.Numbers.{below}
+use Rattle.rc_base.specs.Numbers.{below}
 use Rattle.rc_deck.proofs.EachLemmas.{append_each}
-use Rattle.rc_sheet_model.specs.WellFormed.{is_mem}
-use Rattle.rc_play_model.specs.Control.{Control}
-use Rattle.rc_play_model.specs.Shape.{Place, Shape, face_number}
-use Rattle.rc_play_model.specs.Sees.{sees_place}
-use Rattle.rc_play_model.specs.Table.{Table, IsSound, times_in, references_in}
-use Rattle.rc_play_model.specs.View.{known_face, sight_of, sights_of}
-use Rattle.rc_play_model.proofs.Counting.{passing, same, passing-append, passing-all, each_once}
-use Rattle.rc_play_model.proofs.Filled.{mem_kind}
+use Rattle.rc_sheet_spec.specs.WellFormed.{is_mem}
+use Rattle.rc_play_spec.specs.Control.{Control}
+use Rattle.rc_play_spec.specs.Shape.{Place, Shape, face_number}
+use Rattle.rc_play_spec.specs.Sees.{sees_place}
+use Rattle.rc_play_spec.specs.Table.{Table, IsSound, times_in, references_in}
+use Rattle.rc_play_spec.specs.View.{known_face, sight_of, sights_of}
+use Rattle.rc_play_spec.proofs.Counting.{passing, same, passing-append, passing-all, each_once}
+use Rattle.rc_play_spec.proofs.Filled.{mem_kind}
 use Rattle.rc_table.proofs.Held.{times_here, each_here}
 use Rattle.rc_view.specs.Key.{frame_key, control_key, number_key, known_places, place_key, sight_key}
 use Rattle.rc_view.specs.Laws.{KeysAreShort}

@@ -1,8 +1,8 @@
 -- Sights of one location after another.
 use Rattle.std.proofs.Common.{◌≡◌, ℕ, zero, suc, ◌+◌, ◌<◌, List, [], ◌∷◌, ◌++◌, length, take, get_or, slice_get, ap, refl, subst, arith}
-use Rattle.rc_play_model.specs.Shape.{Place, Shape}
-use Rattle.rc_play_model.specs.Sees.{sees_place}
-use Rattle.rc_play_model.specs.View.{sight_of, sights_of}
+use Rattle.rc_play_spec.specs.Shape.{Place, Shape}
+use Rattle.rc_play_spec.specs.Sees.{sees_place}
+use Rattle.rc_play_spec.specs.View.{sight_of, sights_of}
 
 sights_more : (shape : Shape) (marks : List (List ℕ)) (seat : ℕ) (places : List Place) (lists : List (List ℕ)) (n : ℕ) → n < length lists → length lists ≡ length places →
     sights_of shape marks seat places (take (suc n) lists)

@@ -7,7 +7,7 @@ use Rattle.std.proofs.lemmas.Int.{ints, to_z-of_z}
 use Rattle.std.proofs.lemmas.List.{append_assoc}
 use Rattle.std.proofs.lemmas.Nat.{from_le_bytes-to_le_bytes_2, from_le_bytes-to_le_bytes_4}
 use Rattle.std.proofs.Math.Facts.{Fits-of_z}
-use Rattle.rc_model.specs.Clamp.{IsWithinClamp}
+use Rattle.rc_base.specs.Clamp.{IsWithinClamp}
 use Rattle.rc_view.specs.Key.{or_none, direction, number_key}
 
 abbrev pub Tells : {X : Type 0} → (X → List ℕ) → X → X → Type 0

@@ -2,10 +2,10 @@
 -- locations as the shape says, so none of these is preceded by how many there are.
 use Rattle.std.specs.Prelude.{ℕ, ◌+◌, Bool, true, false, List, [], ◌∷◌, ◌++◌, length, flat_map, Option, Some, None, ℤ, ◌≤◌, All}
 use Rattle.std.specs.Int.{w16, w32, to_le_bytes, cast_unsigned}
-use Rattle.rc_model.specs.Clamp.{IsWithinClamp}
-use Rattle.rc_model.specs.Limits.{most_in_list}
-use Rattle.rc_play_model.specs.Control.{Control, Frame}
-use Rattle.rc_play_model.specs.View.{Sight, with_faces, partly, View}
+use Rattle.rc_base.specs.Clamp.{IsWithinClamp}
+use Rattle.rc_base.specs.Limits.{most_in_list}
+use Rattle.rc_play_spec.specs.Control.{Control, Frame}
+use Rattle.rc_play_spec.specs.View.{Sight, with_faces, partly, View}
 
 -- 255 stands for none
 abbrev pub or_none : Option ℕ → ℕ

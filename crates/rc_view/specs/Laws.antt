@@ -1,15 +1,15 @@
 -- Statements of laws: which views a shape has, that their bytes tell them apart, and that these are few.
 use Rattle.std.specs.Prelude.{◌≡◌, ◌↔◌, ℕ, ◌<◌, ◌≤◌, ◌^◌, Bool, true, false, List, [], ◌∷◌, length, All, IfSome, Some}
-use Rattle.rc_model.specs.Clamp.{IsWithinClamp}
-use Rattle.rc_model.specs.Limits.{most_in_list, most_open}
-use Rattle.rc_sheet_model.specs.WellFormed.{IsWellFormed}
-use Rattle.rc_play_model.specs.About.{About}
-use Rattle.rc_play_model.specs.Fits.{FitsSite}
-use Rattle.rc_play_model.specs.Control.{Control, Frame}
-use Rattle.rc_play_model.specs.Shape.{Place, Shape}
-use Rattle.rc_play_model.specs.Sees.{sees_place}
-use Rattle.rc_play_model.specs.Table.{Table, IsSound}
-use Rattle.rc_play_model.specs.View.{Sight, with_faces, partly, View, view_of}
+use Rattle.rc_base.specs.Clamp.{IsWithinClamp}
+use Rattle.rc_base.specs.Limits.{most_in_list, most_open}
+use Rattle.rc_sheet_spec.specs.WellFormed.{IsWellFormed}
+use Rattle.rc_play_spec.specs.About.{About}
+use Rattle.rc_play_spec.specs.Fits.{FitsSite}
+use Rattle.rc_play_spec.specs.Control.{Control, Frame}
+use Rattle.rc_play_spec.specs.Shape.{Place, Shape}
+use Rattle.rc_play_spec.specs.Sees.{sees_place}
+use Rattle.rc_play_spec.specs.Table.{Table, IsSound}
+use Rattle.rc_play_spec.specs.View.{Sight, with_faces, partly, View, view_of}
 use Rattle.rc_table.specs.Shape.{IsShape}
 use Rattle.rc_view.specs.Key.{key_of, known_places}
 

@@ -1,6 +1,6 @@
 -- Views as the definitions of play have them.
 use Rattle.std.specs.Prelude.{map}
-use Rattle.rc_play_model.specs.View.{Sight as PureSight, with_faces, partly, View as PureView}
+use Rattle.rc_play_spec.specs.View.{Sight as PureSight, with_faces, partly, View as PureView}
 use Rattle.rc_rules.specs.Control.{control_seen}
 use Rattle.rc_view.specs.declared.sight.Sight.{Sight}
 use Rattle.rc_view.specs.declared.sight.Sight.TheVariants.{Faces, Partly}

@@ -1,8 +1,8 @@
 //! The bytes by which a view is known.
 ghost use Rattle.std.specs.Prelude.{◌≡◌, ◌∷◌, ◌++◌, ◌≤◌, length, flat_map, map, All, IfOk, OnOk};
 ghost use Rattle.std.specs.Int.{w16, w32, to_le_bytes};
-ghost use Rattle.rc_model.specs.Clamp.{IsWithinClamp};
-ghost use Rattle.rc_model.specs.Limits.{most_in_list};
+ghost use Rattle.rc_base.specs.Clamp.{IsWithinClamp};
+ghost use Rattle.rc_base.specs.Limits.{most_in_list};
 ghost use Rattle.rc_rules.specs.Control.{control_seen, frame_seen};
 ghost use Rattle.rc_view.specs.Seen.{sight_seen, view_seen};
 ghost use Rattle.rc_view.specs.Key.{HasKey, IsShort, control_key, frame_key, key_of, known_places, number_key, or_none, place_key, sight_key};

@@ -1,9 +1,9 @@
 //! What a seat sees of a location.
 ghost use Rattle.std.specs.Prelude.{◌≡◌, ◌<◌, length, map, All, IfOk};
-ghost use Rattle.rc_play_model.specs.Shape.{face_number as face_number_of};
-ghost use Rattle.rc_play_model.specs.Sees.{sees as sees_faces};
-ghost use Rattle.rc_play_model.specs.Table.{list_at};
-ghost use Rattle.rc_play_model.specs.View.{known_face, sight_of as sight_of_list, sights_of as sights_of_lists};
+ghost use Rattle.rc_play_spec.specs.Shape.{face_number as face_number_of};
+ghost use Rattle.rc_play_spec.specs.Sees.{sees as sees_faces};
+ghost use Rattle.rc_play_spec.specs.Table.{list_at};
+ghost use Rattle.rc_play_spec.specs.View.{known_face, sight_of as sight_of_list, sights_of as sights_of_lists};
 ghost use Rattle.rc_view.specs.Seen.{sight_seen};
 
 use rc_deck::Memory;

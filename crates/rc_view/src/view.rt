@@ -1,7 +1,7 @@
 //! What a seat sees of a match.
 ghost use Rattle.std.specs.Prelude.{◌≡◌, ◌<◌, length, map, IfOk};
-ghost use Rattle.rc_play_model.specs.View.{view_of as view_of_state};
-ghost use Rattle.rc_play_model.specs.ViewLaws.{EqualViewsAlike};
+ghost use Rattle.rc_play_spec.specs.View.{view_of as view_of_state};
+ghost use Rattle.rc_play_spec.specs.ViewLaws.{EqualViewsAlike};
 ghost use Rattle.rc_rules.specs.Control.{control_seen};
 ghost use Rattle.rc_view.specs.Seen.{sight_seen, view_seen};
 ghost use Rattle.rc_view.specs.Key.{HasKey};
@@ -9,7 +9,7 @@ ghost use Rattle.rc_view.specs.Laws.{HasControlKey, IsViewIn};
 
 use crate::sight::{Sight, sights_of};
 use rc_deck::Memory;
-use rc_play_model::views_are_equal_where_states_are_alike;
+use rc_play_spec::views_are_equal_where_states_are_alike;
 use rc_rules::Control;
 use rc_table::{Shape, Table};
 use std::alloc::Global;

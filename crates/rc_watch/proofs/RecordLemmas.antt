@@ -1,15 +1,15 @@
 -- What the record of a match says of its log.
 use Rattle.std.proofs.Common.{◌≡◌, ℕ, ◌<◌, length, Some, sym, ap, ◌∙◌, subst, arith}
-use Rattle.rc_model.specs.Transcript.{Record}
-use Rattle.rc_sheet_model.specs.Sight.{IsInSight}
-use Rattle.rc_sheet_model.specs.WellFormed.{IsWellFormed}
-use Rattle.rc_play_model.specs.Shape.{shape_of}
-use Rattle.rc_play_model.specs.About.{About}
-use Rattle.rc_play_model.specs.Plan.{Plan}
-use Rattle.rc_play_model.specs.Keyed.{dealing_of, keyed_match}
-use Rattle.rc_log_model.specs.Laws.{AllCount}
-use Rattle.rc_log_model.specs.MatchLaws.{IsWatchable, RecordsTellViews, ChoicesHaveViews, MatchViewsCount}
-use Rattle.rc_log_model.specs.Views.{views_in}
+use Rattle.rc_base.specs.Transcript.{Record}
+use Rattle.rc_sheet_spec.specs.Sight.{IsInSight}
+use Rattle.rc_sheet_spec.specs.WellFormed.{IsWellFormed}
+use Rattle.rc_play_spec.specs.Shape.{shape_of}
+use Rattle.rc_play_spec.specs.About.{About}
+use Rattle.rc_play_spec.specs.Plan.{Plan}
+use Rattle.rc_play_spec.specs.Keyed.{dealing_of, keyed_match}
+use Rattle.rc_log_spec.specs.Laws.{AllCount}
+use Rattle.rc_log_spec.specs.MatchLaws.{IsWatchable, RecordsTellViews, ChoicesHaveViews, MatchViewsCount}
+use Rattle.rc_log_spec.specs.Views.{views_in}
 
 -- an about keeps a well formed sheet in sight with its shape, and its turn limit is a word
 pub watchable : (about kept counted : About) (turns : ℕ) → kept ≡ about → counted ≡ about → kept.shape ≡ shape_of kept.sheet → IsWellFormed kept.sheet →

@@ -4,11 +4,11 @@ use Rattle.std.specs.Prelude.{All, IsSome}
 use Rattle.std.specs.List.{AllByRecursion}
 use Rattle.std.proofs.lemmas.List.Elements.{All-from_recursion}
 use Rattle.rc_deck.proofs.EachLemmas.{take_each}
-use Rattle.rc_play_model.specs.Shape.{Shape}
-use Rattle.rc_play_model.specs.View.{View as PureView}
+use Rattle.rc_play_spec.specs.Shape.{Shape}
+use Rattle.rc_play_spec.specs.View.{View as PureView}
 use Rattle.rc_view.specs.Seen.{view_seen}
 use Rattle.rc_view.specs.declared.view.View.{View}
-use Rattle.rc_log_model.specs.Log.{IsLogSite, Counts}
+use Rattle.rc_log_spec.specs.Log.{IsLogSite, Counts}
 
 site_there : (o : Option ℕ) → IsLogSite o → IsSome o
 site_there None is = absurd is

@@ -1,27 +1,27 @@
 //! What a seat sees of a match that is played by itself.
 ghost use Rattle.std.specs.Prelude.{◌≡◌, ◌<◌, ◌≤◌, length, Some, IfOk};
-ghost use Rattle.rc_play_model.specs.About.{about_of};
-ghost use Rattle.rc_play_model.specs.Keyed.{dealing_of, keyed_match};
-ghost use Rattle.rc_plan_model.specs.Limits.{IsWithinLimits};
+ghost use Rattle.rc_play_spec.specs.About.{about_of};
+ghost use Rattle.rc_play_spec.specs.Keyed.{dealing_of, keyed_match};
+ghost use Rattle.rc_play_spec.specs.Limits.{IsWithinLimits};
 ghost use Rattle.rc_code.specs.Seen.{code_seen};
 ghost use Rattle.rc_code.specs.Stands.{StandsFor};
 ghost use Rattle.rc_rules.specs.Plan.{plan_seen, IsPlanFor};
 ghost use Rattle.rc_rules.specs.Record.{record_seen};
-ghost use Rattle.rc_log_model.specs.Laws.{AllCount};
-ghost use Rattle.rc_log_model.specs.Log.{log};
-ghost use Rattle.rc_log_model.specs.Plays.{IsPlayOf};
-ghost use Rattle.rc_log_model.specs.Views.{views_in, log_of};
+ghost use Rattle.rc_log_spec.specs.Laws.{AllCount};
+ghost use Rattle.rc_log_spec.specs.Log.{log};
+ghost use Rattle.rc_log_spec.specs.Plays.{IsPlayOf};
+ghost use Rattle.rc_log_spec.specs.Views.{views_in, log_of};
 
+use rc_base::Steps;
 use rc_code::Code;
 use rc_deck::Memory;
 use rc_flat::FlatMachine;
 use rc_flow::Checked;
-use rc_log_model::{records_tell_views, views_of_matches_count};
-use rc_records::{record_of, shared_about};
+use rc_log_spec::{records_tell_views, views_of_matches_count};
 use rc_rollout::{Blank, Choices, shared_code};
 use rc_rules::{About, MatchRecord, Plan};
 use rc_seatlog::{first_views_of, write_first};
-use rc_steps::Steps;
+use rc_series::{record_of, shared_about};
 use std::alloc::Global;
 use std::marker::Brand;
 use std::sync::ledger::Ledger;

@@ -4,14 +4,14 @@ use Rattle.std.specs.List.{AllByRecursion, sum_by}
 use Rattle.std.proofs.lemmas.List.{map-append, append_assoc}
 use Rattle.std.proofs.lemmas.List.Elements.{All-from_recursion, recursion_from_All}
 use Rattle.std.proofs.lemmas.List.Sums.{sum_by_push}
-use Rattle.rc_model.specs.Numbers.{below}
+use Rattle.rc_base.specs.Numbers.{below}
 use Rattle.rc_deck.proofs.RangeLemmas.{below_push}
 use Rattle.rc_rules.proofs.ShapeLemmas.{summed_map}
 use Rattle.rc_redraw.specs.Counts.{Counts}
 use Rattle.rc_cache.specs.Memos.{shared_counts}
 use Rattle.rc_cache.specs.Sums.{Lane, idle, idle_lanes}
 use Rattle.rc_cache.specs.Sums as lane
-use Rattle.rc_turns.specs.Gathered.{RiseTogether}
+use Rattle.rc_workers.specs.Gathered.{RiseTogether}
 
 -- what follows for each value follows for all that are listed
 pub all_so : {X : Type 0} (P Q : X → Type 0) → ((x : X) → P x → Q x) → (xs : List X) → All P xs → All Q xs

@@ -21,7 +21,7 @@ use Rattle.rc_cache.specs.contracts.shared.SharedBook
 use Rattle.rc_cache.specs.contracts.shared.SharedBook.TheInside as InMemo
 use Rattle.rc_cache.specs.declared.naming.BookNaming
 use Rattle.rc_rollout.specs.contracts.choices.Choices
-use Rattle.rc_turns.proofs.Threaded.{about_sync, about_send, code_sync, code_send}
+use Rattle.rc_workers.proofs.Threaded.{about_sync, about_send, code_sync, code_send}
 
 call_send : IsSend Call.the_row
 call_send = search (about_sync, about_send, Asks.the_sync, Asks.the_send, Crossing.crosses, sendable) depth 20

@@ -1,12 +1,12 @@
 //! All matches of a plan by several workers, over a book that is made for them.
 ghost use Rattle.std.specs.Prelude.{◌≡◌, ◌<◌, ◌≤◌, map, length, IfOk};
-ghost use Rattle.rc_model.specs.Limits.{most_entries, most_workers};
-ghost use Rattle.rc_play_model.specs.About.{about_of};
-ghost use Rattle.rc_play_model.specs.House.{standings_of};
-ghost use Rattle.rc_plan_model.specs.Limits.{IsWithinLimits};
+ghost use Rattle.rc_base.specs.Limits.{most_entries, most_workers};
+ghost use Rattle.rc_play_spec.specs.About.{about_of};
+ghost use Rattle.rc_play_spec.specs.House.{standings_of};
+ghost use Rattle.rc_play_spec.specs.Limits.{IsWithinLimits};
 ghost use Rattle.rc_rules.specs.Plan.{plan_seen, IsPlanFor};
 ghost use Rattle.rc_rules.specs.Record.{record_seen, standing_seen};
-ghost use Rattle.rc_records.specs.Series.{IsTold, looks_of, matches_of};
+ghost use Rattle.rc_series.specs.Series.{IsTold, looks_of, matches_of};
 ghost use Rattle.rc_cache.specs.Fresh.{HasNames, HasParts};
 
 use crate::sharing::{memos_of, play_shared};
@@ -14,8 +14,8 @@ use rc_cache::{Book, BookNaming, Fresh, close};
 use rc_deck::Memory;
 use rc_flow::Checked;
 use rc_outside::Gate;
-use rc_records::{Series, series_from, shared_about};
 use rc_rules::{About, Plan};
+use rc_series::{Series, series_from, shared_about};
 use std::alloc::Global;
 use std::marker::Brand;
 use std::sync::{Arc, Mutex, Wait};

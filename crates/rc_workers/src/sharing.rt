@@ -1,11 +1,12 @@
 //! Matches by several workers over one book.
 ghost use Rattle.std.specs.Prelude.{◌≡◌, ◌≤◌, length, map, All, IfOk};
-ghost use Rattle.rc_model.specs.Limits.{most_matches, most_workers};
+ghost use Rattle.rc_base.specs.Limits.{most_matches, most_workers};
 ghost use Rattle.rc_rules.specs.Plan.{plan_seen, IsPlanFor};
 ghost use Rattle.rc_cache.specs.Memos.{shared_counts};
-ghost use Rattle.rc_records.specs.Series.{IsNotedAs, looks_of, matches_of, played_seen};
-ghost use Rattle.rc_turns.specs.Gathered.{RiseTogether};
+ghost use Rattle.rc_series.specs.Series.{IsNotedAs, looks_of, matches_of, played_seen};
+ghost use Rattle.rc_workers.specs.Gathered.{RiseTogether};
 
+use crate::play_claimed;
 use rc_cache::{Book, BookNaming, Lane, SharedBook};
 use rc_code::Code;
 use rc_deck::Memory;
@@ -13,7 +14,6 @@ use rc_match::Played;
 use rc_outside::Gate;
 use rc_rollout::{Choices, shared_code};
 use rc_rules::{About, Plan};
-use rc_turns::play_claimed;
 use std::alloc::Global;
 use std::sync::{Arc, Mutex, Wait};
 use std::thread::Threads;

@@ -3,7 +3,7 @@ use Rattle.std.specs.List.Sorted.{IsPermutation}
 use Rattle.std.specs.Prelude.{swap}
 use Rattle.std.proofs.Math.Nat.{mod-eq_of_lt}
 use Rattle.rand_chacha.specs.ChaCha.{word_at}
-use Rattle.rc_play_model.specs.Draws as draws
+use Rattle.rc_play_spec.specs.Draws as draws
 use Rattle.rc_draw.proofs.ShuffleSteps.{one_step, no_step}
 use Rattle.rc_draw.proofs.shuffle_by.Goals as goal
 

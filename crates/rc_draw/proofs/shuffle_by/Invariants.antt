@@ -1,6 +1,6 @@
 use Rattle.std.proofs.Common.{◌-◌, ◌≡◌, length, ◌+◌}
 use Rattle.rand_chacha.specs.ChaCha.{key_of}
-use Rattle.rc_play_model.specs.Draws as draws
+use Rattle.rc_play_spec.specs.Draws as draws
 use Rattle.rc_draw.proofs.shuffle_by.Given as goal
 
 abbrev pub invariant-loop-z : goal.invariant-loop-z

@@ -2,24 +2,24 @@
 use Rattle.std.proofs.Common.{◌≡◌, ℕ, Bool, ◌+◌, ◌≤◌, ◌||◌, ◌==◌, true, false, nat_le, List, [], ◌∷◌, ◌++◌, length, Some, None, option_map, refl, sym, subst, ap, ◌∙◌, arith, le-leb, eq-eqb, ne_eqb}
 use Rattle.std.specs.List.{All}
 use Rattle.std.proofs.lemmas.List.Elements.{recursion_from_All}
-use Rattle.rc_model.specs.Tree.{Tree, word, list, Trees, nil, cons}
-use Rattle.rc_sheet_model.specs.Sheet.{IntExpr, Best, highest, lowest, SheetItems, Sheet}
-use Rattle.rc_sheet_model.specs.Lists.{item_list}
-use Rattle.rc_model.specs.Limits.{most_stages, most_sites}
-use Rattle.rc_sheet_model.specs.Mentions.{sites_in}
-use Rattle.rc_sheet_model.specs.Mentions.{stages_in as stages_in_tree}
-use Rattle.rc_sheet_model.specs.Naming.{Naming, sheet_naming}
-use Rattle.rc_sheet_model.specs.WellFormed.{outside, scored, IsInt, AreItems}
-use Rattle.rc_faults.specs.SecondParts.{Standing, standing_in, standing_alone, Part, form, parts_at, parts_in, with_form, parts_of}
-use Rattle.rc_faults.specs.SecondNames.{stages_in, choices_in}
-use Rattle.rc_faults.specs.SecondFaults.{stage_count, choice_count}
-use Rattle.rc_grammar.specs.Faults.{is_word, atom_faults, faults, rule_of, count, behind_front}
-use Rattle.rc_grammar.specs.declared.keyword.Keyword.TheVariants as keyword
-use Rattle.rc_grammar.specs.declared.grammar.Symbol.TheVariants as symbol
-use Rattle.rc_grammar.specs.declared.grammar.Rule.TheVariants as rule
-use Rattle.rc_grammar.specs.declared.fault.SheetKind.TheVariants.{Shape}
-use Rattle.rc_reading.specs.ReadNames.{◌>>=◌, ensure}
-use Rattle.rc_reading.specs.ReadItems.{none_begun, items_at, best_at, score_rule, score_at, but_last, last_of, body_at}
+use Rattle.rc_base.specs.Tree.{Tree, word, list, Trees, nil, cons}
+use Rattle.rc_sheet_spec.specs.Sheet.{IntExpr, Best, highest, lowest, SheetItems, Sheet}
+use Rattle.rc_sheet_spec.specs.Lists.{item_list}
+use Rattle.rc_base.specs.Limits.{most_stages, most_sites}
+use Rattle.rc_sheet_spec.specs.Mentions.{sites_in}
+use Rattle.rc_sheet_spec.specs.Mentions.{stages_in as stages_in_tree}
+use Rattle.rc_sheet_spec.specs.Naming.{Naming, sheet_naming}
+use Rattle.rc_sheet_spec.specs.WellFormed.{outside, scored, IsInt, AreItems}
+use Rattle.rc_check.specs.SecondParts.{Standing, standing_in, standing_alone, Part, form, parts_at, parts_in, with_form, parts_of}
+use Rattle.rc_check.specs.SecondNames.{stages_in, choices_in}
+use Rattle.rc_check.specs.SecondFaults.{stage_count, choice_count}
+use Rattle.rc_check.specs.Faults.{is_word, atom_faults, faults, rule_of, count, behind_front}
+use Rattle.rc_check.specs.declared.keyword.Keyword.TheVariants as keyword
+use Rattle.rc_check.specs.declared.grammar.Symbol.TheVariants as symbol
+use Rattle.rc_check.specs.declared.grammar.Rule.TheVariants as rule
+use Rattle.rc_check.specs.declared.fault.SheetKind.TheVariants.{Shape}
+use Rattle.rc_sheet.specs.ReadNames.{◌>>=◌, ensure}
+use Rattle.rc_sheet.specs.ReadItems.{none_begun, items_at, best_at, score_rule, score_at, but_last, last_of, body_at}
 use Rattle.rc_sheet.proofs.Fine.Common.{Given, IsFine}
 use Rattle.rc_sheet.proofs.Finds.{Finds, finds, finds_if, implies, makes, follows_this, finds_both, finds_meaning, whether, where_true, ensures_so}
 use Rattle.rc_sheet.proofs.GoodParts.{◌▹◌, Each, each_by_parts, three_and_more, IsGood, IsGoodForm, GoodAt, AreGood, good_form, no_list}

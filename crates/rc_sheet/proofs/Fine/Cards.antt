@@ -4,24 +4,24 @@ use Rattle.std.specs.Prelude.{sum, sum_by, codes}
 use Rattle.std.proofs.lemmas.List.{append-nil, length-map, map-append}
 use Rattle.std.proofs.lemmas.List.Sums.{sum-map}
 use Rattle.std.proofs.lemmas.Grind.{flat_map-append}
-use Rattle.rc_model.specs.Tree.{Tree, word, list, Trees, nil, cons}
-use Rattle.rc_model.specs.Deck.{no_group, group, no_branch, branch, face_count, branch_count}
-use Rattle.rc_setup.specs.Naming.{DeckNames}
-use Rattle.rc_sheet_model.specs.Sheet.{DeckLine, Sheet}
-use Rattle.rc_model.specs.Limits.{most_cards}
-use Rattle.rc_sheet_model.specs.Naming.{Naming}
-use Rattle.rc_setup.specs.Naming.{number_of}
-use Rattle.rc_setup.specs.Reading.{unless_nil, plain, read_groups, read_group, read_branches, read_branch, is_word, read_deck}
-use Rattle.rc_grammar.specs.Faults.{faults}
-use Rattle.rc_grammar.specs.declared.grammar.Symbol.TheVariants as symbol
-use Rattle.rc_grammar.specs.declared.grammar.Rule.TheVariants as rule
-use Rattle.rc_faults.specs.SecondParts.{Part, atom, form, parts_of}
-use Rattle.rc_faults.specs.SecondNames.{some_of, faces_of, cards_in, written_faces, written_branches}
-use Rattle.rc_faults.specs.SecondFaults.{card_count, second_faults}
-use Rattle.rc_naming.specs.Naming.{naming_of}
-use Rattle.rc_reading.specs.ReadNames.{loc_at}
-use Rattle.rc_reading.specs.ReadSetup.{face_words, home_of, deck_at}
-use Rattle.rc_reading.specs.ReadSheet.{setup_form_at, sheet_at}
+use Rattle.rc_base.specs.Tree.{Tree, word, list, Trees, nil, cons}
+use Rattle.rc_base.specs.Deck.{no_group, group, no_branch, branch, face_count, branch_count}
+use Rattle.rc_resolve.specs.NamedNumbers.{DeckNames}
+use Rattle.rc_sheet_spec.specs.Sheet.{DeckLine, Sheet}
+use Rattle.rc_base.specs.Limits.{most_cards}
+use Rattle.rc_sheet_spec.specs.Naming.{Naming}
+use Rattle.rc_resolve.specs.NamedNumbers.{number_of}
+use Rattle.rc_resolve.specs.Reading.{unless_nil, plain, read_groups, read_group, read_branches, read_branch, is_word, read_deck}
+use Rattle.rc_check.specs.Faults.{faults}
+use Rattle.rc_check.specs.declared.grammar.Symbol.TheVariants as symbol
+use Rattle.rc_check.specs.declared.grammar.Rule.TheVariants as rule
+use Rattle.rc_check.specs.SecondParts.{Part, atom, form, parts_of}
+use Rattle.rc_check.specs.SecondNames.{some_of, faces_of, cards_in, written_faces, written_branches}
+use Rattle.rc_check.specs.SecondFaults.{card_count, second_faults}
+use Rattle.rc_resolve.specs.Naming.{naming_of}
+use Rattle.rc_sheet.specs.ReadNames.{loc_at}
+use Rattle.rc_sheet.specs.ReadSetup.{face_words, home_of, deck_at}
+use Rattle.rc_sheet.specs.ReadSheet.{setup_form_at, sheet_at}
 use Rattle.rc_sheet.proofs.Means.{Means, nothing, something, means_so, weaker, mapped, behind, either, made_of, anything}
 use Rattle.rc_sheet.proofs.Fine.Counts.{IsWatched, stays_within, watched_part}
 use Rattle.rc_sheet.proofs.Faultless.{each_faultless}

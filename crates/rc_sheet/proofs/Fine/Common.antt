@@ -1,18 +1,18 @@
 -- Parts of a form that a second round found nothing wrong with, where the naming of the sheet is fixed.
 use Rattle.std.proofs.Common.{◌≡◌, ℕ, true, false, ◌||◌, nat_le, List, length, flat_map, slice_get, position, bytes_eq, Some}
-use Rattle.rc_model.specs.Tree.{Tree, Trees}
-use Rattle.rc_sheet_model.specs.Sheet.{LocName, NumName}
-use Rattle.rc_model.specs.Limits.{most_variables, most_repeats}
-use Rattle.rc_sheet_model.specs.Naming.{Naming}
-use Rattle.rc_sheet_model.specs.Naming.{kind_word as kind_bytes}
-use Rattle.rc_faults.specs.Classes.{class_at}
-use Rattle.rc_faults.specs.SecondParts.{Standing, Part, atom, form, part_at, word_in, parts_of}
-use Rattle.rc_faults.specs.SecondNames.{is_named, attributes_in, values_in, maps_in, mention_of, OwnedMention}
-use Rattle.rc_faults.specs.SecondFaults.{is_bound, is_unbound, is_in_stage, is_misused, is_other_side, is_misplaced}
-use Rattle.rc_faults.specs.declared.role.Role.{Role}
-use Rattle.rc_faults.specs.declared.role.Role.TheVariants.{UsedAttribute as used_attribute, UsedValue as used_value, UsedMap as used_map, GivenValue as given_value}
-use Rattle.rc_grammar.specs.declared.grammar.Rule.{Rule}
-use Rattle.rc_grammar.specs.declared.grammar.Rule.TheVariants as rule
+use Rattle.rc_base.specs.Tree.{Tree, Trees}
+use Rattle.rc_sheet_spec.specs.Sheet.{LocName, NumName}
+use Rattle.rc_base.specs.Limits.{most_variables, most_repeats}
+use Rattle.rc_sheet_spec.specs.Naming.{Naming}
+use Rattle.rc_sheet_spec.specs.Naming.{kind_word as kind_bytes}
+use Rattle.rc_check.specs.Classes.{class_at}
+use Rattle.rc_check.specs.SecondParts.{Standing, Part, atom, form, part_at, word_in, parts_of}
+use Rattle.rc_check.specs.SecondNames.{is_named, attributes_in, values_in, maps_in, mention_of, OwnedMention}
+use Rattle.rc_check.specs.SecondFaults.{is_bound, is_unbound, is_in_stage, is_misused, is_other_side, is_misplaced}
+use Rattle.rc_check.specs.declared.role.Role.{Role}
+use Rattle.rc_check.specs.declared.role.Role.TheVariants.{UsedAttribute as used_attribute, UsedValue as used_value, UsedMap as used_map, GivenValue as given_value}
+use Rattle.rc_check.specs.declared.grammar.Rule.{Rule}
+use Rattle.rc_check.specs.declared.grammar.Rule.TheVariants as rule
 
 -- the attributes, the values and the point maps that decks and points give
 pub record Given : Type 0 where

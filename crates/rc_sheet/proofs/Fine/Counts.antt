@@ -1,12 +1,12 @@
 -- A form without a fault of the second round has no more stages and choices than a sheet may have.
 use Rattle.std.proofs.Common.{◌≡◌, ℕ, ◌≤◌, Bool, true, false, ◌||◌, ◌&&◌, nat_le, nat_lt, List, [], ◌∷◌, ◌++◌, length, flat_map, append_assoc, append-nil, refl, sym, subst, ap, arith, ltb-false, le-leb}
 use Rattle.std.proofs.lemmas.Bool.{or_parts}
-use Rattle.rc_model.specs.Tree.{Tree}
-use Rattle.rc_model.specs.Limits.{most_stages, most_sites}
-use Rattle.rc_faults.specs.SecondParts.{Part, atom, form, parts_of}
-use Rattle.rc_faults.specs.SecondNames.{stages_in, choices_in}
-use Rattle.rc_faults.specs.SecondFaults.{is_too_many, passes, stage_count, choice_count, faults_of, faults_behind, second_faults}
-use Rattle.rc_grammar.specs.declared.grammar.Rule.TheVariants as rule
+use Rattle.rc_base.specs.Tree.{Tree}
+use Rattle.rc_base.specs.Limits.{most_stages, most_sites}
+use Rattle.rc_check.specs.SecondParts.{Part, atom, form, parts_of}
+use Rattle.rc_check.specs.SecondNames.{stages_in, choices_in}
+use Rattle.rc_check.specs.SecondFaults.{is_too_many, passes, stage_count, choice_count, faults_of, faults_behind, second_faults}
+use Rattle.rc_check.specs.declared.grammar.Rule.TheVariants as rule
 use Rattle.rc_sheet.proofs.Fine.Items.{length_of_both}
 use Rattle.rc_sheet.proofs.Shapes.{none_in_both}
 use Rattle.rc_sheet.proofs.Faultless.{faultless}

@@ -9,36 +9,36 @@ use Rattle.std.proofs.lemmas.List.Elements.{All-from_recursion}
 use Rattle.std.proofs.lemmas.List.Folds.{list_any-append}
 use Rattle.std.proofs.lemmas.Slice.Eq.{bytes_eq-Decides}
 use Rattle.std.proofs.Math.Bool.{or-false}
-use Rattle.rc_model.specs.Tree.{Tree, word, list, Trees, nil, cons}
-use Rattle.rc_model.specs.Deck.{Groups, no_group, group, Branches, no_branch, branch}
+use Rattle.rc_base.specs.Tree.{Tree, word, list, Trees, nil, cons}
+use Rattle.rc_base.specs.Deck.{Groups, no_group, group, Branches, no_branch, branch}
 use Rattle.rc_deck.proofs.EachLemmas.{append_each}
-use Rattle.rc_sheet_model.specs.Sheet.{DeckLine, game_class, LocName, Who, game, SheetItems, Best, IntExpr, Sheet}
-use Rattle.rc_sheet_model.specs.Rows.{◌▸◌, End, Row}
-use Rattle.rc_sheet_model.specs.Naming.{Naming, KindOf, Named, loc_class, class_of}
-use Rattle.rc_sheet_model.specs.Naming.{kind_word as kind_bytes}
-use Rattle.rc_sheet_model.specs.StandsExpressions.{StandsHolder}
-use Rattle.rc_sheet_model.specs.WellFormed.{is_mem, is_among, group_attrs, branch_attrs, AreGroups, AreBranches, IsDeck}
-use Rattle.rc_grammar.specs.Faults.{faults, is_word, place_at, count}
-use Rattle.rc_grammar.specs.declared.keyword.Keyword.TheVariants as keyword
-use Rattle.rc_grammar.specs.declared.grammar.Symbol.TheVariants as symbol
-use Rattle.rc_grammar.specs.declared.grammar.Rule.{Rule}
-use Rattle.rc_grammar.specs.declared.grammar.Rule.TheVariants as rule
-use Rattle.rc_faults.specs.declared.role.Role.TheVariants.{DeckLocation as deck_role}
-use Rattle.rc_faults.specs.Groups.{attributes_in}
-use Rattle.rc_faults.specs.SecondParts.{Standing, standing_in, word_in, part_at, front, attributes_of, attributes_below, attributes_among, inner_attributes}
-use Rattle.rc_faults.specs.SecondNames.{is_named, mention_of}
-use Rattle.rc_faults.specs.SecondFaults.{is_game, is_misplaced, second_faults}
-use Rattle.rc_faults.proofs.GroupLemmas.{below_more}
-use Rattle.rc_setup.specs.Naming.{DeckNames}
-use Rattle.rc_setup.specs.Naming.{number_of}
-use Rattle.rc_setup.specs.Reading.{unless_nil, plain, read_groups, read_group, read_branch_list, read_branches, read_branch, read_deck}
-use Rattle.rc_setup.specs.Reading.{both as both_read}
-use Rattle.rc_setup.specs.Reading.{is_word as is_read_word}
-use Rattle.rc_faults.proofs.Above.{none_before}
-use Rattle.rc_naming.specs.Naming.{naming_of}
-use Rattle.rc_reading.specs.ReadNames.{loc_at}
-use Rattle.rc_reading.specs.ReadSetup.{Setup, face_words, home_of, deck_at}
-use Rattle.rc_reading.specs.ReadSheet.{setup_form_at, sheet_at, sheet_with}
+use Rattle.rc_sheet_spec.specs.Sheet.{DeckLine, game_class, LocName, Who, game, SheetItems, Best, IntExpr, Sheet}
+use Rattle.rc_sheet_spec.specs.Rows.{◌▸◌, End, Row}
+use Rattle.rc_sheet_spec.specs.Naming.{Naming, KindOf, Named, loc_class, class_of}
+use Rattle.rc_sheet_spec.specs.Naming.{kind_word as kind_bytes}
+use Rattle.rc_sheet_spec.specs.StandsExpressions.{StandsHolder}
+use Rattle.rc_sheet_spec.specs.WellFormed.{is_mem, is_among, group_attrs, branch_attrs, AreGroups, AreBranches, IsDeck}
+use Rattle.rc_check.specs.Faults.{faults, is_word, place_at, count}
+use Rattle.rc_check.specs.declared.keyword.Keyword.TheVariants as keyword
+use Rattle.rc_check.specs.declared.grammar.Symbol.TheVariants as symbol
+use Rattle.rc_check.specs.declared.grammar.Rule.{Rule}
+use Rattle.rc_check.specs.declared.grammar.Rule.TheVariants as rule
+use Rattle.rc_check.specs.declared.role.Role.TheVariants.{DeckLocation as deck_role}
+use Rattle.rc_check.specs.Groups.{attributes_in}
+use Rattle.rc_check.specs.SecondParts.{Standing, standing_in, word_in, part_at, front, attributes_of, attributes_below, attributes_among, inner_attributes}
+use Rattle.rc_check.specs.SecondNames.{is_named, mention_of}
+use Rattle.rc_check.specs.SecondFaults.{is_game, is_misplaced, second_faults}
+use Rattle.rc_check.proofs.GroupLemmas.{below_more}
+use Rattle.rc_resolve.specs.NamedNumbers.{DeckNames}
+use Rattle.rc_resolve.specs.NamedNumbers.{number_of}
+use Rattle.rc_resolve.specs.Reading.{unless_nil, plain, read_groups, read_group, read_branch_list, read_branches, read_branch, read_deck}
+use Rattle.rc_resolve.specs.Reading.{both as both_read}
+use Rattle.rc_resolve.specs.Reading.{is_word as is_read_word}
+use Rattle.rc_check.proofs.Above.{none_before}
+use Rattle.rc_resolve.specs.Naming.{naming_of}
+use Rattle.rc_sheet.specs.ReadNames.{loc_at}
+use Rattle.rc_sheet.specs.ReadSetup.{Setup, face_words, home_of, deck_at}
+use Rattle.rc_sheet.specs.ReadSheet.{setup_form_at, sheet_at, sheet_with}
 use Rattle.rc_sheet.proofs.Means.{Means, nothing, something, means_if, means_so, weaker, mapped, behind, either, place_passes, anything, made_of}
 use Rattle.rc_sheet.proofs.ReadOff.Names.{loc_means}
 use Rattle.rc_sheet.proofs.Bodies.{standing_at}

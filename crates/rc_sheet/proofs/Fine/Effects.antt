@@ -1,22 +1,22 @@
 -- What a form's fine parts say is found and well formed: spots, effects, domains and alternatives.
 use Rattle.std.proofs.Common.{◌≡◌, ℕ, suc, ◌≤◌, ◌||◌, true, cond, List, [], ◌∷◌, length, Some, option_map, refl, sym, subst, ap, ◌∙◌, arith, lt-ltb, leb-false}
-use Rattle.rc_model.specs.Tree.{Tree, word, list, Trees, nil, cons}
-use Rattle.rc_sheet_model.specs.Sheet.{Class, game_class, player_class, team_class, Sort, card_sort, group_sort, End, top, bottom, Loc, Domain, each_player, each_card, each_group, move, move_all, remember, forget, shuffle, set_to, increase, decrease, when, repeat, next_is, turn_round, peek, Effects, no_effect, effect, do_alt, if_alt, Sheet}
-use Rattle.rc_sheet_model.specs.Lists.{effect_list}
-use Rattle.rc_model.specs.Limits.{most_repeats}
-use Rattle.rc_sheet_model.specs.Naming.{sort_of, sheet_naming}
-use Rattle.rc_sheet_model.specs.WellFormed.{Around, in_repeat, IsInStage, IsLoc, IsColl, IsRange, IsDomain, IsEffect, AreEffects, IsAlt, AreAlts}
-use Rattle.rc_faults.specs.Classes.{bound_in}
-use Rattle.rc_faults.specs.SecondParts.{Standing, standing_in, sort_by_form, sort_over, bytes_of, part_at, word_in}
-use Rattle.rc_faults.specs.SecondFaults.{sorts_at, is_in_stage}
-use Rattle.rc_grammar.specs.Faults.{is_word, is_variable, atom_faults, rule_of, count}
-use Rattle.rc_grammar.specs.declared.keyword.Keyword.TheVariants as keyword
-use Rattle.rc_grammar.specs.declared.grammar.Symbol.TheVariants as symbol
-use Rattle.rc_grammar.specs.declared.grammar.Rule.{Rule}
-use Rattle.rc_grammar.specs.declared.grammar.Rule.TheVariants as rule
-use Rattle.rc_grammar.specs.declared.fault.SheetKind.TheVariants.{Shape}
-use Rattle.rc_reading.specs.ReadExpressions.{coll_rule}
-use Rattle.rc_reading.specs.ReadEffects.{spot_rule, spot_at, effect_at, effect_rule, effects_at, domain_rule, domain_at, alt_at, alt_rule, alts_at}
+use Rattle.rc_base.specs.Tree.{Tree, word, list, Trees, nil, cons}
+use Rattle.rc_sheet_spec.specs.Sheet.{Class, game_class, player_class, team_class, Sort, card_sort, group_sort, End, top, bottom, Loc, Domain, each_player, each_card, each_group, move, move_all, remember, forget, shuffle, set_to, increase, decrease, when, repeat, next_is, turn_round, peek, Effects, no_effect, effect, do_alt, if_alt, Sheet}
+use Rattle.rc_sheet_spec.specs.Lists.{effect_list}
+use Rattle.rc_base.specs.Limits.{most_repeats}
+use Rattle.rc_sheet_spec.specs.Naming.{sort_of, sheet_naming}
+use Rattle.rc_sheet_spec.specs.WellFormed.{Around, in_repeat, IsInStage, IsLoc, IsColl, IsRange, IsDomain, IsEffect, AreEffects, IsAlt, AreAlts}
+use Rattle.rc_check.specs.Classes.{bound_in}
+use Rattle.rc_check.specs.SecondParts.{Standing, standing_in, sort_by_form, sort_over, bytes_of, part_at, word_in}
+use Rattle.rc_check.specs.SecondFaults.{sorts_at, is_in_stage}
+use Rattle.rc_check.specs.Faults.{is_word, is_variable, atom_faults, rule_of, count}
+use Rattle.rc_check.specs.declared.keyword.Keyword.TheVariants as keyword
+use Rattle.rc_check.specs.declared.grammar.Symbol.TheVariants as symbol
+use Rattle.rc_check.specs.declared.grammar.Rule.{Rule}
+use Rattle.rc_check.specs.declared.grammar.Rule.TheVariants as rule
+use Rattle.rc_check.specs.declared.fault.SheetKind.TheVariants.{Shape}
+use Rattle.rc_sheet.specs.ReadExpressions.{coll_rule}
+use Rattle.rc_sheet.specs.ReadEffects.{spot_rule, spot_at, effect_at, effect_rule, effects_at, domain_rule, domain_at, alt_at, alt_rule, alts_at}
 use Rattle.rc_sheet.proofs.Fine.Common.{Given}
 use Rattle.rc_sheet.proofs.Finds.{Finds, finds, implies, makes, follows, finds_both, joins}
 use Rattle.rc_sheet.proofs.GoodParts.{◌▹◌, Each, by_parts, each_by_parts}

@@ -4,29 +4,29 @@ use Rattle.std.specs.List.{list_any}
 use Rattle.std.proofs.Math.Bool.{and-false}
 use Rattle.std.proofs.lemmas.Bool.{and_parts, not-false, true≢false}
 use Rattle.std.proofs.lemmas.Int.{ints}
-use Rattle.rc_model.specs.Literal.{integer}
-use Rattle.rc_model.specs.Tree.{Tree, word, list, Trees, nil, cons}
-use Rattle.rc_sheet_model.specs.Sheet.{Class, game_class, player_class, team_class, Sort, player_sort, card_sort, group_sort, Who, game, who_var, CardExpr, card_var, top_card, bottom_card, max_card, min_card, group_var, cards_in, union_of, known_in, no_coll, coll, IntExpr, literal, number, size_of, sum_of, worth_of, add, subtract, multiply, Test, eq_int, eq_card, eq_attr, eq_who, ne, less, less_eq, more, more_eq, and_of, or_of, not_of, no_test, test, Domain, each_player, each_card, Sheet}
-use Rattle.rc_sheet_model.specs.Lists.{coll_list, test_list}
-use Rattle.rc_model.specs.Clamp.{IsWithinClamp, largest_number}
-use Rattle.rc_sheet_model.specs.Naming.{Scope, sort_of, class_of, sheet_naming}
-use Rattle.rc_sheet_model.specs.WellFormed.{Around, is_equality, IsAttr, HasSort, IsOwner, IsCard, IsColl, AreColls, IsInt, IsTest, AreTests, IsRange}
-use Rattle.rc_sheet_model.specs.Sheet.{same_sort, same_class}
-use Rattle.rc_faults.specs.SecondParts.{Standing, standing_in, sort_by_form, sort_over, bytes_of}
-use Rattle.rc_faults.specs.SecondFaults.{sorts_at, same_side, side_of_variable, side_of_form, side_of, differ, is_other_side}
-use Rattle.rc_faults.specs.SecondNames.{some_of}
-use Rattle.rc_faults.specs.SecondFaults.{side_of_sort as sort_side}
-use Rattle.rc_faults.specs.SecondFaults.{variable_in as variable_found}
-use Rattle.rc_faults.specs.declared.role.SideSort.{SideSort}
-use Rattle.rc_faults.specs.declared.role.SideSort.TheVariants as sorts
-use Rattle.rc_grammar.specs.Faults.{is_word, is_variable, is_within, is_number, atom_faults, may_begin, plain_rule, rule_of, count}
-use Rattle.rc_grammar.specs.declared.keyword.Keyword.TheVariants as keyword
-use Rattle.rc_grammar.specs.declared.grammar.Symbol.TheVariants as symbol
-use Rattle.rc_grammar.specs.declared.grammar.Rule.{Rule}
-use Rattle.rc_grammar.specs.declared.grammar.Rule.TheVariants as rule
-use Rattle.rc_grammar.specs.declared.fault.SheetKind.TheVariants.{Shape, Number}
-use Rattle.rc_reading.specs.ReadNames.{◌>>=◌, both, place_in, variable_in, owner_rule}
-use Rattle.rc_reading.specs.ReadExpressions.{Side, number_side, card_side, value_side, owner_side, side_of_sort, variable_side, side_word, equal_test, side_by, card_at, card_rule, coll_at, coll_rule, colls_at, int_at, int_rule, side_at, value_parts, test_at, test_rule, tests_at, range_at}
+use Rattle.rc_base.specs.Literal.{integer}
+use Rattle.rc_base.specs.Tree.{Tree, word, list, Trees, nil, cons}
+use Rattle.rc_sheet_spec.specs.Sheet.{Class, game_class, player_class, team_class, Sort, player_sort, card_sort, group_sort, Who, game, who_var, CardExpr, card_var, top_card, bottom_card, max_card, min_card, group_var, cards_in, union_of, known_in, no_coll, coll, IntExpr, literal, number, size_of, sum_of, worth_of, add, subtract, multiply, Test, eq_int, eq_card, eq_attr, eq_who, ne, less, less_eq, more, more_eq, and_of, or_of, not_of, no_test, test, Domain, each_player, each_card, Sheet}
+use Rattle.rc_sheet_spec.specs.Lists.{coll_list, test_list}
+use Rattle.rc_base.specs.Clamp.{IsWithinClamp, largest_number}
+use Rattle.rc_sheet_spec.specs.Naming.{Scope, sort_of, class_of, sheet_naming}
+use Rattle.rc_sheet_spec.specs.WellFormed.{Around, is_equality, IsAttr, HasSort, IsOwner, IsCard, IsColl, AreColls, IsInt, IsTest, AreTests, IsRange}
+use Rattle.rc_sheet_spec.specs.Sheet.{same_sort, same_class}
+use Rattle.rc_check.specs.SecondParts.{Standing, standing_in, sort_by_form, sort_over, bytes_of}
+use Rattle.rc_check.specs.SecondFaults.{sorts_at, same_side, side_of_variable, side_of_form, side_of, differ, is_other_side}
+use Rattle.rc_check.specs.SecondNames.{some_of}
+use Rattle.rc_check.specs.SecondFaults.{side_of_sort as sort_side}
+use Rattle.rc_check.specs.SecondFaults.{variable_in as variable_found}
+use Rattle.rc_check.specs.declared.role.SideSort.{SideSort}
+use Rattle.rc_check.specs.declared.role.SideSort.TheVariants as sorts
+use Rattle.rc_check.specs.Faults.{is_word, is_variable, is_within, is_number, atom_faults, may_begin, plain_rule, rule_of, count}
+use Rattle.rc_check.specs.declared.keyword.Keyword.TheVariants as keyword
+use Rattle.rc_check.specs.declared.grammar.Symbol.TheVariants as symbol
+use Rattle.rc_check.specs.declared.grammar.Rule.{Rule}
+use Rattle.rc_check.specs.declared.grammar.Rule.TheVariants as rule
+use Rattle.rc_check.specs.declared.fault.SheetKind.TheVariants.{Shape, Number}
+use Rattle.rc_sheet.specs.ReadNames.{◌>>=◌, both, place_in, variable_in, owner_rule}
+use Rattle.rc_sheet.specs.ReadExpressions.{Side, number_side, card_side, value_side, owner_side, side_of_sort, variable_side, side_word, equal_test, side_by, card_at, card_rule, coll_at, coll_rule, colls_at, int_at, int_rule, side_at, value_parts, test_at, test_rule, tests_at, range_at}
 use Rattle.rc_sheet.proofs.Fine.Common.{Given}
 use Rattle.rc_sheet.proofs.Finds.{Finds, finds, finds_if, implies, makes, follows, follows_this, finds_both, joins, where_true, whether}
 use Rattle.rc_sheet.proofs.GoodParts.{◌▹◌, Each, by_parts, good_form}

@@ -1,23 +1,23 @@
 -- What a form's fine parts say is found and well formed: items, the scoring, and the body of a sheet.
 use Rattle.std.proofs.Common.{◌≡◌, ℕ, suc, ◌+◌, ◌≤◌, ◌<◌, nat_lt, List, [], ◌∷◌, ◌++◌, length, length-append, flat_map, Option, Some, refl, sym, subst, ap, ◌∙◌, arith, lt-ltb}
 use Rattle.std.proofs.lemmas.Grind.{flat_map-append}
-use Rattle.rc_model.specs.Tree.{Tree, word, list, Trees, nil, cons}
-use Rattle.rc_sheet_model.specs.Sheet.{Class, player_class, team_class, Test, SheetItem, do_item, stage, choice, SheetItems, no_item, Sheet}
-use Rattle.rc_sheet_model.specs.Lists.{item_list}
-use Rattle.rc_model.specs.Limits.{most_stages, most_sites}
-use Rattle.rc_sheet_model.specs.Naming.{sheet_naming}
-use Rattle.rc_sheet_model.specs.WellFormed.{Around, in_stage, IsTest, IsItem, AreItems}
-use Rattle.rc_faults.specs.SecondParts.{Standing, standing_in, Part, form, parts_at, parts_in, with_form}
-use Rattle.rc_faults.specs.SecondNames.{stages_in, choices_in}
-use Rattle.rc_faults.specs.SecondFaults.{stage_count, choice_count}
-use Rattle.rc_grammar.specs.Faults.{atom_faults, rule_of, count}
-use Rattle.rc_grammar.specs.declared.grammar.Symbol.TheVariants as symbol
-use Rattle.rc_grammar.specs.declared.grammar.Rule.{Rule}
-use Rattle.rc_grammar.specs.declared.grammar.Rule.TheVariants as rule
-use Rattle.rc_reading.specs.ReadNames.{ensure}
-use Rattle.rc_reading.specs.ReadExpressions.{test_at}
-use Rattle.rc_reading.specs.ReadEffects.{effects_at}
-use Rattle.rc_reading.specs.ReadItems.{Begun, with_stage, with_site, stage_of, end_rule, end_at, item_at, item_rule, items_at}
+use Rattle.rc_base.specs.Tree.{Tree, word, list, Trees, nil, cons}
+use Rattle.rc_sheet_spec.specs.Sheet.{Class, player_class, team_class, Test, SheetItem, do_item, stage, choice, SheetItems, no_item, Sheet}
+use Rattle.rc_sheet_spec.specs.Lists.{item_list}
+use Rattle.rc_base.specs.Limits.{most_stages, most_sites}
+use Rattle.rc_sheet_spec.specs.Naming.{sheet_naming}
+use Rattle.rc_sheet_spec.specs.WellFormed.{Around, in_stage, IsTest, IsItem, AreItems}
+use Rattle.rc_check.specs.SecondParts.{Standing, standing_in, Part, form, parts_at, parts_in, with_form}
+use Rattle.rc_check.specs.SecondNames.{stages_in, choices_in}
+use Rattle.rc_check.specs.SecondFaults.{stage_count, choice_count}
+use Rattle.rc_check.specs.Faults.{atom_faults, rule_of, count}
+use Rattle.rc_check.specs.declared.grammar.Symbol.TheVariants as symbol
+use Rattle.rc_check.specs.declared.grammar.Rule.{Rule}
+use Rattle.rc_check.specs.declared.grammar.Rule.TheVariants as rule
+use Rattle.rc_sheet.specs.ReadNames.{ensure}
+use Rattle.rc_sheet.specs.ReadExpressions.{test_at}
+use Rattle.rc_sheet.specs.ReadEffects.{effects_at}
+use Rattle.rc_sheet.specs.ReadItems.{Begun, with_stage, with_site, stage_of, end_rule, end_at, item_at, item_rule, items_at}
 use Rattle.rc_sheet.proofs.Fine.Common.{Given}
 use Rattle.rc_sheet.proofs.Finds.{Finds, finds, makes, follows, follows_this, finds_both, ensures_so}
 use Rattle.rc_sheet.proofs.GoodParts.{◌▹◌, Each, by_parts, each_by_parts, one_and_more, three_and_more, list_finds}

@@ -3,25 +3,25 @@ use Rattle.std.proofs.Common.{◌≡◌, ℕ, ◌+◌, ◌≤◌, true, List, []
 use Rattle.std.proofs.lemmas.List.Elements.{recursion_from_All}
 use Rattle.std.proofs.lemmas.Option.{same_Some}
 use Rattle.std.proofs.lemmas.Grind.{flat_map-append}
-use Rattle.rc_model.specs.Tree.{Tree, word, list, Trees, nil, cons}
-use Rattle.rc_model.specs.Deck.{Entry}
-use Rattle.rc_sheet_model.specs.Sheet.{Teams, DeckLine}
-use Rattle.rc_model.specs.Limits.{most_players}
+use Rattle.rc_base.specs.Tree.{Tree, word, list, Trees, nil, cons}
+use Rattle.rc_base.specs.Deck.{Entry}
+use Rattle.rc_sheet_spec.specs.Sheet.{Teams, DeckLine}
+use Rattle.rc_base.specs.Limits.{most_players}
 use Rattle.rc_deck.proofs.EachLemmas.{parts_of_append}
-use Rattle.rc_sheet_model.specs.Naming.{Naming}
-use Rattle.rc_grammar.specs.Keyword.{text_of}
-use Rattle.rc_grammar.specs.Faults.{faults, faults_at, faults_in, rule_of, place_at, count}
-use Rattle.rc_grammar.specs.declared.keyword.Keyword.TheVariants as keyword
-use Rattle.rc_grammar.specs.declared.grammar.Symbol.TheVariants as symbol
-use Rattle.rc_grammar.specs.declared.grammar.Rule.{Rule}
-use Rattle.rc_grammar.specs.declared.grammar.Rule.TheVariants as rule
-use Rattle.rc_faults.specs.SecondParts.{Standing, Part, atom, form, parts_at, parts_in, parts_of, with_form, standing_in, standing_alone}
-use Rattle.rc_faults.specs.SecondNames.{players_in, teams_in, cards_in}
-use Rattle.rc_faults.specs.SecondFaults.{faults_of, faults_behind, second_faults}
-use Rattle.rc_naming.specs.Naming.{naming_of}
-use Rattle.rc_reading.specs.ReadNames.{◌>>=◌, ensure, rule_at}
-use Rattle.rc_reading.specs.ReadSetup.{Setup, Lines, no_line, count_at, teams_at, deck_at, points_at, players_line, teams_line, deck_line, points_line, line_rule, line_at, lines_at, setup_of, setup_at}
-use Rattle.rc_reading.specs.ReadSheet.{setup_rule, setup_form_at}
+use Rattle.rc_sheet_spec.specs.Naming.{Naming}
+use Rattle.rc_check.specs.Keyword.{text_of}
+use Rattle.rc_check.specs.Faults.{faults, faults_at, faults_in, rule_of, place_at, count}
+use Rattle.rc_check.specs.declared.keyword.Keyword.TheVariants as keyword
+use Rattle.rc_check.specs.declared.grammar.Symbol.TheVariants as symbol
+use Rattle.rc_check.specs.declared.grammar.Rule.{Rule}
+use Rattle.rc_check.specs.declared.grammar.Rule.TheVariants as rule
+use Rattle.rc_check.specs.SecondParts.{Standing, Part, atom, form, parts_at, parts_in, parts_of, with_form, standing_in, standing_alone}
+use Rattle.rc_check.specs.SecondNames.{players_in, teams_in, cards_in}
+use Rattle.rc_check.specs.SecondFaults.{faults_of, faults_behind, second_faults}
+use Rattle.rc_resolve.specs.Naming.{naming_of}
+use Rattle.rc_sheet.specs.ReadNames.{◌>>=◌, ensure, rule_at}
+use Rattle.rc_sheet.specs.ReadSetup.{Setup, Lines, no_line, count_at, teams_at, deck_at, points_at, players_line, teams_line, deck_line, points_line, line_rule, line_at, lines_at, setup_of, setup_at}
+use Rattle.rc_sheet.specs.ReadSheet.{setup_rule, setup_form_at}
 use Rattle.rc_sheet.proofs.Means.{Means, nothing, something, means_if, weaker, behind, ensured, sized_is}
 use Rattle.rc_sheet.proofs.Shapes.{none_in_both, shape_of, line_place}
 use Rattle.rc_sheet.proofs.Bodies.{standing_at}

@@ -6,32 +6,32 @@ use Rattle.std.proofs.lemmas.Option.{slice_get_within, get_or_from_slice_get}
 use Rattle.std.proofs.lemmas.List.Folds.{find_at}
 use Rattle.std.proofs.lemmas.Slice.Eq.{bytes_eq-Decides}
 use Rattle.std.proofs.Math.Bool.{or-false}
-use Rattle.rc_model.specs.Tree.{Tree, word, list, Trees, nil, cons}
-use Rattle.rc_sheet_model.specs.Sheet.{Class, game_class, player_class, team_class, Sort, player_sort, LocKind, vloc, iloc, hloc, mem, Who, game, current_player, current_team, who_var, Loc, Sheet}
-use Rattle.rc_model.specs.Limits.{most_variables}
-use Rattle.rc_sheet_model.specs.Naming.{Variable, Scope, class_of, sheet_naming}
-use Rattle.rc_sheet_model.specs.Naming.{kind_word as kind_bytes}
-use Rattle.rc_sheet_model.specs.WellFormed.{Around, IsAttr, IsValue, IsMap, HasSort, IsOwner, IsHolder, var_word, IsBinder, behind, is_mem, holds_references, IsLoc, IsNum}
-use Rattle.rc_sheet_model.specs.Sheet.{same_sort, same_class}
-use Rattle.rc_faults.specs.Classes.{class_of_rule, class_at, bound_in}
-use Rattle.rc_faults.specs.SecondParts.{Standing, part_at, bytes_of, word_in}
-use Rattle.rc_faults.specs.SecondNames.{some_of, mention_of, OwnedMention}
-use Rattle.rc_faults.specs.SecondFaults.{is_other_sort, is_misplaced, sorts_at}
-use Rattle.rc_faults.specs.SecondFaults.{variable_in as variable_found}
-use Rattle.rc_grammar.specs.Keyword.{text_of}
-use Rattle.rc_grammar.specs.Faults.{is_word, is_variable, is_form_word, unless, atom_faults, rule_of, fits}
-use Rattle.rc_faults.specs.declared.role.Role.{Role}
-use Rattle.rc_faults.specs.declared.role.Role.TheVariants.{UsedAttribute as used_attribute, UsedValue as used_value, UsedMap as used_map, CardLocation as card_location, ReferenceLocation as reference_location}
-use Rattle.rc_grammar.specs.declared.keyword.Keyword.{Keyword}
-use Rattle.rc_grammar.specs.declared.keyword.Keyword.TheVariants as keyword
-use Rattle.rc_grammar.specs.declared.grammar.Symbol.{Symbol}
-use Rattle.rc_grammar.specs.declared.grammar.Symbol.TheVariants as symbol
-use Rattle.rc_grammar.specs.declared.grammar.Rule.{Rule}
-use Rattle.rc_grammar.specs.declared.grammar.Rule.TheVariants as rule
-use Rattle.rc_grammar.specs.declared.fault.SheetKind.{SheetKind}
-use Rattle.rc_grammar.specs.declared.fault.SheetKind.TheVariants.{Shape}
-use Rattle.rc_grammar.specs.declared.fault.SheetFault.{SheetFault}
-use Rattle.rc_reading.specs.ReadNames.{◌>>=◌, ensure, rule_at, name_at, binder_at, has_sort, place_in, sorted, variable_in, player_of_rule, player_at, team_of, team_parts, owner_rule, owner_at, holder_at, is_loc_name, is_num_name, loc_parts, loc_rule, loc_at, num_parts, num_rule, num_at, map_at, kind_keyword}
+use Rattle.rc_base.specs.Tree.{Tree, word, list, Trees, nil, cons}
+use Rattle.rc_sheet_spec.specs.Sheet.{Class, game_class, player_class, team_class, Sort, player_sort, LocKind, vloc, iloc, hloc, mem, Who, game, current_player, current_team, who_var, Loc, Sheet}
+use Rattle.rc_base.specs.Limits.{most_variables}
+use Rattle.rc_sheet_spec.specs.Naming.{Variable, Scope, class_of, sheet_naming}
+use Rattle.rc_sheet_spec.specs.Naming.{kind_word as kind_bytes}
+use Rattle.rc_sheet_spec.specs.WellFormed.{Around, IsAttr, IsValue, IsMap, HasSort, IsOwner, IsHolder, var_word, IsBinder, behind, is_mem, holds_references, IsLoc, IsNum}
+use Rattle.rc_sheet_spec.specs.Sheet.{same_sort, same_class}
+use Rattle.rc_check.specs.Classes.{class_of_rule, class_at, bound_in}
+use Rattle.rc_check.specs.SecondParts.{Standing, part_at, bytes_of, word_in}
+use Rattle.rc_check.specs.SecondNames.{some_of, mention_of, OwnedMention}
+use Rattle.rc_check.specs.SecondFaults.{is_other_sort, is_misplaced, sorts_at}
+use Rattle.rc_check.specs.SecondFaults.{variable_in as variable_found}
+use Rattle.rc_check.specs.Keyword.{text_of}
+use Rattle.rc_check.specs.Faults.{is_word, is_variable, is_form_word, unless, atom_faults, rule_of, fits}
+use Rattle.rc_check.specs.declared.role.Role.{Role}
+use Rattle.rc_check.specs.declared.role.Role.TheVariants.{UsedAttribute as used_attribute, UsedValue as used_value, UsedMap as used_map, CardLocation as card_location, ReferenceLocation as reference_location}
+use Rattle.rc_check.specs.declared.keyword.Keyword.{Keyword}
+use Rattle.rc_check.specs.declared.keyword.Keyword.TheVariants as keyword
+use Rattle.rc_check.specs.declared.grammar.Symbol.{Symbol}
+use Rattle.rc_check.specs.declared.grammar.Symbol.TheVariants as symbol
+use Rattle.rc_check.specs.declared.grammar.Rule.{Rule}
+use Rattle.rc_check.specs.declared.grammar.Rule.TheVariants as rule
+use Rattle.rc_check.specs.declared.fault.SheetKind.{SheetKind}
+use Rattle.rc_check.specs.declared.fault.SheetKind.TheVariants.{Shape}
+use Rattle.rc_check.specs.declared.fault.SheetFault.{SheetFault}
+use Rattle.rc_sheet.specs.ReadNames.{◌>>=◌, ensure, rule_at, name_at, binder_at, has_sort, place_in, sorted, variable_in, player_of_rule, player_at, team_of, team_parts, owner_rule, owner_at, holder_at, is_loc_name, is_num_name, loc_parts, loc_rule, loc_at, num_parts, num_rule, num_at, map_at, kind_keyword}
 use Rattle.rc_sheet.proofs.Fine.Common.{Given, IsNamed, HasNumber, IsFineAtom, IsFineBinder}
 use Rattle.rc_sheet.proofs.Means.{means_so, found_passes}
 use Rattle.rc_sheet.proofs.ReadOff.Names.{same_bytes, sorts_same, kind_is, class_same}

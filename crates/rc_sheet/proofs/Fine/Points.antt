@@ -6,25 +6,25 @@ use Rattle.std.specs.Option.{option_and_then}
 use Rattle.std.proofs.lemmas.Bool.{and_parts}
 use Rattle.std.proofs.lemmas.Int.{ints}
 use Rattle.std.proofs.lemmas.List.Elements.{All-from_recursion, All-weaker}
-use Rattle.rc_model.specs.Tree.{Tree, word, list, Trees, nil, cons}
-use Rattle.rc_model.specs.Literal.{integer}
-use Rattle.rc_model.specs.Deck.{Entry}
-use Rattle.rc_setup.specs.Naming.{DeckNames}
-use Rattle.rc_sheet_model.specs.Sheet.{Sheet}
-use Rattle.rc_model.specs.Clamp.{IsWithinClamp, largest_number}
+use Rattle.rc_base.specs.Tree.{Tree, word, list, Trees, nil, cons}
+use Rattle.rc_base.specs.Literal.{integer}
+use Rattle.rc_base.specs.Deck.{Entry}
+use Rattle.rc_resolve.specs.NamedNumbers.{DeckNames}
+use Rattle.rc_sheet_spec.specs.Sheet.{Sheet}
+use Rattle.rc_base.specs.Clamp.{IsWithinClamp, largest_number}
 use Rattle.rc_deck.proofs.EachLemmas.{append_each}
-use Rattle.rc_sheet_model.specs.WellFormed.{IsEntry}
-use Rattle.rc_setup.specs.Naming.{number_of}
-use Rattle.rc_setup.specs.Reading.{read_values, read_value_list, unclamped, read_points, entry_with, read_entry, read_all_entries, read_entries}
-use Rattle.rc_setup.specs.Reading.{both as both_read}
-use Rattle.rc_grammar.specs.Faults.{faults}
-use Rattle.rc_grammar.specs.declared.grammar.Symbol.TheVariants as symbol
-use Rattle.rc_faults.specs.SecondFaults.{second_faults}
-use Rattle.rc_naming.specs.Naming.{naming_of}
-use Rattle.rc_sheet_model.specs.Naming.{Naming}
-use Rattle.rc_reading.specs.ReadNames.{ensure, name_at}
-use Rattle.rc_reading.specs.ReadSetup.{face_words, points_at}
-use Rattle.rc_reading.specs.ReadSheet.{setup_form_at, sheet_at}
+use Rattle.rc_sheet_spec.specs.WellFormed.{IsEntry}
+use Rattle.rc_resolve.specs.NamedNumbers.{number_of}
+use Rattle.rc_resolve.specs.Reading.{read_values, read_value_list, unclamped, read_points, entry_with, read_entry, read_all_entries, read_entries}
+use Rattle.rc_resolve.specs.Reading.{both as both_read}
+use Rattle.rc_check.specs.Faults.{faults}
+use Rattle.rc_check.specs.declared.grammar.Symbol.TheVariants as symbol
+use Rattle.rc_check.specs.SecondFaults.{second_faults}
+use Rattle.rc_resolve.specs.Naming.{naming_of}
+use Rattle.rc_sheet_spec.specs.Naming.{Naming}
+use Rattle.rc_sheet.specs.ReadNames.{ensure, name_at}
+use Rattle.rc_sheet.specs.ReadSetup.{face_words, points_at}
+use Rattle.rc_sheet.specs.ReadSheet.{setup_form_at, sheet_at}
 use Rattle.rc_sheet.proofs.Means.{Means, nothing, something, means_so, weaker, behind, either, made_of, anything}
 use Rattle.rc_sheet.proofs.Fine.Lines.{setup_in, setup_keeps}
 use Rattle.rc_sheet.proofs.SheetSetup.{by_setup}

@@ -2,21 +2,21 @@
 use Rattle.std.proofs.Common.{◌≡◌, ◌≤◌, ℕ, pos, [], length, sym, subst, ap}
 use Rattle.std.specs.Prelude.{unwrap_or}
 use Rattle.std.specs.List.{All}
-use Rattle.rc_model.specs.Tree.{Tree, list, Trees, cons}
-use Rattle.rc_sheet_model.specs.Sheet.{SheetItems, no_item, Best, highest, IntExpr, literal, Sheet}
-use Rattle.rc_sheet_model.specs.Lists.{item_list}
-use Rattle.rc_model.specs.Limits.{most_stages, most_sites}
-use Rattle.rc_sheet_model.specs.Naming.{Naming}
-use Rattle.rc_sheet_model.specs.WellFormed.{outside, scored, IsInt, AreItems}
-use Rattle.rc_faults.specs.SecondParts.{standing_alone, parts_of}
-use Rattle.rc_faults.specs.SecondFaults.{stage_count, choice_count}
-use Rattle.rc_grammar.specs.Faults.{faults, count}
-use Rattle.rc_grammar.specs.declared.grammar.Symbol.TheVariants as symbol
-use Rattle.rc_grammar.specs.declared.grammar.Rule.TheVariants as rule
-use Rattle.rc_reading.specs.ReadNames.{◌>>=◌, sized}
-use Rattle.rc_reading.specs.ReadItems.{body_at}
-use Rattle.rc_reading.specs.ReadSetup.{Setup}
-use Rattle.rc_reading.specs.ReadSheet.{setup_form_at, game_parts, game_rule, sheet_at, sheet_with}
+use Rattle.rc_base.specs.Tree.{Tree, list, Trees, cons}
+use Rattle.rc_sheet_spec.specs.Sheet.{SheetItems, no_item, Best, highest, IntExpr, literal, Sheet}
+use Rattle.rc_sheet_spec.specs.Lists.{item_list}
+use Rattle.rc_base.specs.Limits.{most_stages, most_sites}
+use Rattle.rc_sheet_spec.specs.Naming.{Naming}
+use Rattle.rc_sheet_spec.specs.WellFormed.{outside, scored, IsInt, AreItems}
+use Rattle.rc_check.specs.SecondParts.{standing_alone, parts_of}
+use Rattle.rc_check.specs.SecondFaults.{stage_count, choice_count}
+use Rattle.rc_check.specs.Faults.{faults, count}
+use Rattle.rc_check.specs.declared.grammar.Symbol.TheVariants as symbol
+use Rattle.rc_check.specs.declared.grammar.Rule.TheVariants as rule
+use Rattle.rc_sheet.specs.ReadNames.{◌>>=◌, sized}
+use Rattle.rc_sheet.specs.ReadItems.{body_at}
+use Rattle.rc_sheet.specs.ReadSetup.{Setup}
+use Rattle.rc_sheet.specs.ReadSheet.{setup_form_at, game_parts, game_rule, sheet_at, sheet_with}
 use Rattle.rc_sheet.proofs.Fine.Common.{Given, IsFine}
 use Rattle.rc_sheet.proofs.Finds.{Finds, finds, finds_if, found_as, follows}
 use Rattle.rc_sheet.proofs.GoodParts.{IsGood, sized_finds}

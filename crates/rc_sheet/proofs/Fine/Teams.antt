@@ -6,32 +6,32 @@ use Rattle.std.proofs.lemmas.Bool.{or_parts, and_parts, or_right, eqb-false, not
 use Rattle.std.proofs.lemmas.List.{append-nil}
 use Rattle.std.proofs.lemmas.List.Folds.{list_any-append}
 use Rattle.std.proofs.lemmas.Grind.{flat_map-append}
-use Rattle.rc_model.specs.Tree.{Tree, word, list, Trees, nil, cons}
-use Rattle.rc_model.specs.Literal.{integer}
-use Rattle.rc_sheet_model.specs.Sheet.{Teams, Sheet}
-use Rattle.rc_model.specs.Limits.{most_players}
-use Rattle.rc_sheet_model.specs.WellFormed.{is_among, ArePartition, AreTeams}
-use Rattle.rc_grammar.specs.Grammar.{forms_of}
-use Rattle.rc_grammar.specs.Faults.{faults, faults_at, faults_in, rule_of, place_at, count}
-use Rattle.rc_grammar.specs.declared.keyword.Keyword.TheVariants as keyword
-use Rattle.rc_grammar.specs.declared.grammar.Symbol.{Symbol}
-use Rattle.rc_grammar.specs.declared.grammar.Symbol.TheVariants as symbol
-use Rattle.rc_grammar.specs.declared.grammar.Rule.{Rule}
-use Rattle.rc_grammar.specs.declared.grammar.Rule.TheVariants as rule
-use Rattle.rc_faults.specs.SecondParts.{Standing, Part, atom, form, parts_at, parts_in, parts_of, with_form, standing_in}
-use Rattle.rc_faults.specs.SecondNames.{some_of, number_by, number_at, players_in, player_count, teams_in, numbers_in, team_players, member_by, members_in}
-use Rattle.rc_faults.specs.SecondFaults.{is_in_first_teams, is_unbound, is_unnamed, is_no_player, is_player_again, leaves_out, faults_of, faults_behind, second_faults}
-use Rattle.rc_naming.specs.Naming.{naming_of}
-use Rattle.rc_reading.specs.ReadNames.{rule_at}
-use Rattle.rc_reading.specs.ReadSetup.{within, count_at, members_at, team_rule, team_at, teams_at}
-use Rattle.rc_reading.specs.ReadSheet.{setup_form_at, sheet_at}
+use Rattle.rc_base.specs.Tree.{Tree, word, list, Trees, nil, cons}
+use Rattle.rc_base.specs.Literal.{integer}
+use Rattle.rc_sheet_spec.specs.Sheet.{Teams, Sheet}
+use Rattle.rc_base.specs.Limits.{most_players}
+use Rattle.rc_sheet_spec.specs.WellFormed.{is_among, ArePartition, AreTeams}
+use Rattle.rc_check.specs.Grammar.{forms_of}
+use Rattle.rc_check.specs.Faults.{faults, faults_at, faults_in, rule_of, place_at, count}
+use Rattle.rc_check.specs.declared.keyword.Keyword.TheVariants as keyword
+use Rattle.rc_check.specs.declared.grammar.Symbol.{Symbol}
+use Rattle.rc_check.specs.declared.grammar.Symbol.TheVariants as symbol
+use Rattle.rc_check.specs.declared.grammar.Rule.{Rule}
+use Rattle.rc_check.specs.declared.grammar.Rule.TheVariants as rule
+use Rattle.rc_check.specs.SecondParts.{Standing, Part, atom, form, parts_at, parts_in, parts_of, with_form, standing_in}
+use Rattle.rc_check.specs.SecondNames.{some_of, number_by, number_at, players_in, player_count, teams_in, numbers_in, team_players, member_by, members_in}
+use Rattle.rc_check.specs.SecondFaults.{is_in_first_teams, is_unbound, is_unnamed, is_no_player, is_player_again, leaves_out, faults_of, faults_behind, second_faults}
+use Rattle.rc_resolve.specs.Naming.{naming_of}
+use Rattle.rc_sheet.specs.ReadNames.{rule_at}
+use Rattle.rc_sheet.specs.ReadSetup.{within, count_at, members_at, team_rule, team_at, teams_at}
+use Rattle.rc_sheet.specs.ReadSheet.{setup_form_at, sheet_at}
 use Rattle.rc_sheet.proofs.Means.{Means, nothing, something, means_if, means_so, weaker, behind, either, paired, anything}
 use Rattle.rc_sheet.proofs.Shapes.{none_in_both, no_list_at}
 use Rattle.rc_sheet.proofs.Bodies.{standing_at}
 use Rattle.rc_sheet.proofs.Given.Faces.{sole}
 use Rattle.rc_sheet.proofs.GoodForms.{from_two}
 use Rattle.rc_sheet.proofs.Faultless.{IsFaultless, faultless}
-use Rattle.rc_sheet_model.specs.Naming.{Naming}
+use Rattle.rc_sheet_spec.specs.Naming.{Naming}
 use Rattle.rc_sheet.proofs.ReadOff.Setup.{none_listed}
 use Rattle.rc_sheet.proofs.Fine.Common.{Given, given_of}
 use Rattle.rc_sheet.proofs.TeamNumbers.{Differ, AreAllBelow, as_many, each_once}

@@ -3,27 +3,27 @@ use Rattle.std.proofs.Common.{◌≡◌, ℕ, ◌+◌, ◌≤◌, true, false, n
 use Rattle.std.specs.Prelude.{codes, pos, neg_ℤ}
 use Rattle.std.specs.Option.{option_and_then, option_to_list}
 use Rattle.std.proofs.lemmas.Bool.{not-true}
-use Rattle.rc_model.specs.Literal.{integer}
-use Rattle.rc_model.specs.Tree.{Tree, word, list, Trees, nil, cons}
-use Rattle.rc_model.specs.Deck.{no_group, group, no_branch, branch}
-use Rattle.rc_sheet_model.specs.Naming.{Naming}
-use Rattle.rc_model.specs.Clamp.{largest_number, is_within_clamp}
-use Rattle.rc_grammar.specs.Faults.{is_word, is_variable, is_within, is_number, atom_kind, atom_faults, place_at, count}
-use Rattle.rc_grammar.specs.declared.keyword.Keyword.TheVariants as keyword
-use Rattle.rc_grammar.specs.declared.grammar.Symbol.{Symbol}
-use Rattle.rc_grammar.specs.declared.grammar.Symbol.TheVariants as symbol
-use Rattle.rc_grammar.specs.declared.grammar.Rule.{Rule}
-use Rattle.rc_grammar.specs.declared.grammar.Rule.TheVariants as rule
-use Rattle.rc_grammar.specs.declared.fault.SheetKind.{SheetKind}
-use Rattle.rc_grammar.specs.declared.fault.SheetKind.TheVariants.{Shape, Number}
-use Rattle.rc_grammar.specs.declared.fault.SheetFault.{SheetFault}
-use Rattle.rc_faults.specs.declared.role.Role.TheVariants.{GivenValue as given_value}
-use Rattle.rc_faults.specs.SecondParts.{Standing, standing_in, bytes_of}
-use Rattle.rc_setup.specs.Naming.{number_of}
-use Rattle.rc_setup.specs.Reading.{unless_nil, plain, read_groups, read_group, read_branches, read_branch, read_deck, read_values, read_value_list, unclamped, read_points, entry_with, read_entry, read_all_entries, read_entries}
-use Rattle.rc_setup.specs.Reading.{both as both_read}
-use Rattle.rc_setup.specs.Reading.{is_word as is_read_word}
-use Rattle.rc_reading.specs.ReadSetup.{face_words}
+use Rattle.rc_base.specs.Literal.{integer}
+use Rattle.rc_base.specs.Tree.{Tree, word, list, Trees, nil, cons}
+use Rattle.rc_base.specs.Deck.{no_group, group, no_branch, branch}
+use Rattle.rc_sheet_spec.specs.Naming.{Naming}
+use Rattle.rc_base.specs.Clamp.{largest_number, is_within_clamp}
+use Rattle.rc_check.specs.Faults.{is_word, is_variable, is_within, is_number, atom_kind, atom_faults, place_at, count}
+use Rattle.rc_check.specs.declared.keyword.Keyword.TheVariants as keyword
+use Rattle.rc_check.specs.declared.grammar.Symbol.{Symbol}
+use Rattle.rc_check.specs.declared.grammar.Symbol.TheVariants as symbol
+use Rattle.rc_check.specs.declared.grammar.Rule.{Rule}
+use Rattle.rc_check.specs.declared.grammar.Rule.TheVariants as rule
+use Rattle.rc_check.specs.declared.fault.SheetKind.{SheetKind}
+use Rattle.rc_check.specs.declared.fault.SheetKind.TheVariants.{Shape, Number}
+use Rattle.rc_check.specs.declared.fault.SheetFault.{SheetFault}
+use Rattle.rc_check.specs.declared.role.Role.TheVariants.{GivenValue as given_value}
+use Rattle.rc_check.specs.SecondParts.{Standing, standing_in, bytes_of}
+use Rattle.rc_resolve.specs.NamedNumbers.{number_of}
+use Rattle.rc_resolve.specs.Reading.{unless_nil, plain, read_groups, read_group, read_branches, read_branch, read_deck, read_values, read_value_list, unclamped, read_points, entry_with, read_entry, read_all_entries, read_entries}
+use Rattle.rc_resolve.specs.Reading.{both as both_read}
+use Rattle.rc_resolve.specs.Reading.{is_word as is_read_word}
+use Rattle.rc_sheet.specs.ReadSetup.{face_words}
 use Rattle.rc_sheet.proofs.Bodies.{standing_at}
 use Rattle.rc_sheet.proofs.Given.Faces.{branch_behind, deck_behind}
 use Rattle.rc_sheet.proofs.Fine.Common.{Given, IsNamed, HasNumber}

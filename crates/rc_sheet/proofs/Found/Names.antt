@@ -6,15 +6,15 @@ use Rattle.std.proofs.lemmas.Bool.{cond-true, lt-ltb}
 use Rattle.std.proofs.lemmas.List.{map-append}
 use Rattle.std.proofs.lemmas.Option.{slice_get-map, same_Some}
 use Rattle.std.proofs.lemmas.Slice.Eq.{bytes_eq-Decides}
-use Rattle.rc_model.specs.Tree.{Tree, word, list, Trees, nil, cons}
-use Rattle.rc_sheet_model.specs.Sheet.{vloc, iloc, hloc, mem, LocName, NumName}
-use Rattle.rc_sheet_model.specs.Naming.{kind_word as kind_bytes}
-use Rattle.rc_model.specs.Words.{different, different_from}
-use Rattle.rc_sheet_model.specs.FormMentions.{is_kind, word_of, gathered, all_gathered, loc_word, num_word, deck_loc, deck_lines, body, loc_mentions, num_mentions, is_text}
-use Rattle.rc_grammar.specs.Faults.{is_kind as is_kind_word}
-use Rattle.rc_faults.specs.SecondNames.{is_named, firsts_from, OwnedMention}
-use Rattle.rc_naming.specs.Mentions.{mention_by, loc_mention, num_mention, deck_location, all_locations, all_numbers}
-use Rattle.rc_naming.specs.Naming.{kind_by, firsts, loc_names, num_names, naming_of}
+use Rattle.rc_base.specs.Tree.{Tree, word, list, Trees, nil, cons}
+use Rattle.rc_sheet_spec.specs.Sheet.{vloc, iloc, hloc, mem, LocName, NumName}
+use Rattle.rc_sheet_spec.specs.Naming.{kind_word as kind_bytes}
+use Rattle.rc_base.specs.Words.{different, different_from}
+use Rattle.rc_sheet_spec.specs.FormMentions.{is_kind, word_of, gathered, all_gathered, loc_word, num_word, deck_loc, deck_lines, body, loc_mentions, num_mentions, is_text}
+use Rattle.rc_check.specs.Faults.{is_kind as is_kind_word}
+use Rattle.rc_check.specs.SecondNames.{is_named, firsts_from, OwnedMention}
+use Rattle.rc_resolve.specs.Mentions.{mention_by, loc_mention, num_mention, deck_location, all_locations, all_numbers}
+use Rattle.rc_resolve.specs.Naming.{kind_by, firsts, loc_names, num_names, naming_of}
 use Rattle.rc_sheet.proofs.Means.{place_passes, means_so}
 use Rattle.rc_sheet.proofs.Among.{Among, Within, among_either, among_named, among_map}
 use Rattle.rc_sheet.proofs.Agreed.{Agree, agree_two}

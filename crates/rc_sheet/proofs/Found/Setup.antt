@@ -5,29 +5,29 @@ use Rattle.std.proofs.lemmas.Bool.{or_parts, not-false}
 use Rattle.std.proofs.lemmas.Option.{same_Some}
 use Rattle.std.proofs.lemmas.List.{length-append}
 use Rattle.std.proofs.lemmas.List.Elements.{recursion_from_All}
-use Rattle.rc_model.specs.Literal.{integer}
-use Rattle.rc_model.specs.Tree.{Tree, word, list, Trees, nil, cons}
-use Rattle.rc_sheet_model.specs.Sheet.{Class, game_class, player_class, DeckLine, game, no_item, highest, literal, Sheet}
-use Rattle.rc_model.specs.Limits.{most_players}
+use Rattle.rc_base.specs.Literal.{integer}
+use Rattle.rc_base.specs.Tree.{Tree, word, list, Trees, nil, cons}
+use Rattle.rc_sheet_spec.specs.Sheet.{Class, game_class, player_class, DeckLine, game, no_item, highest, literal, Sheet}
+use Rattle.rc_base.specs.Limits.{most_players}
 use Rattle.rc_deck.proofs.EachLemmas.{parts_of_append}
-use Rattle.rc_sheet_model.specs.Naming.{Naming, class_of}
-use Rattle.rc_grammar.specs.Keyword.{text_of}
-use Rattle.rc_grammar.specs.Faults.{faults, faults_at, faults_in, atom_faults, is_word, is_within, rule_of, place_at, count, fits}
-use Rattle.rc_grammar.specs.declared.keyword.Keyword.TheVariants as keyword
-use Rattle.rc_grammar.specs.declared.grammar.Symbol.TheVariants as symbol
-use Rattle.rc_grammar.specs.declared.grammar.Rule.{Rule}
-use Rattle.rc_grammar.specs.declared.grammar.Rule.TheVariants as rule
-use Rattle.rc_grammar.specs.declared.fault.SheetKind.TheVariants.{Number}
-use Rattle.rc_faults.specs.declared.role.Role.TheVariants.{DeckLocation as deck_role}
-use Rattle.rc_faults.specs.Classes.{class_of_rule, class_at}
-use Rattle.rc_faults.specs.SecondParts.{Standing, Part, form, parts_at, parts_in, parts_of, with_form, standing_in, part_at, bytes_of, word_in}
-use Rattle.rc_faults.specs.SecondNames.{some_of, players_in, teams_in, maps_in, mention_of}
-use Rattle.rc_faults.specs.SecondFaults.{is_twice, is_game, is_misplaced, faults_of, faults_behind, second_faults}
-use Rattle.rc_naming.specs.Naming.{naming_of}
-use Rattle.rc_reading.specs.ReadNames.{◌>>=◌, ensure, rule_at, name_at, owner_at, holder_at, is_loc_name, loc_parts, loc_rule, loc_at}
-use Rattle.rc_reading.specs.ReadSetup.{Setup, Lines, no_line, within, count_at, members_at, team_rule, team_at, teams_at, face_words, home_of, deck_at, points_at, players_line, teams_line, deck_line, points_line, line_rule, line_at, lines_at, setup_of, setup_at}
-use Rattle.rc_setup.specs.Reading.{read_deck}
-use Rattle.rc_reading.specs.ReadSheet.{setup_rule, setup_form_at, sheet_with}
+use Rattle.rc_sheet_spec.specs.Naming.{Naming, class_of}
+use Rattle.rc_check.specs.Keyword.{text_of}
+use Rattle.rc_check.specs.Faults.{faults, faults_at, faults_in, atom_faults, is_word, is_within, rule_of, place_at, count, fits}
+use Rattle.rc_check.specs.declared.keyword.Keyword.TheVariants as keyword
+use Rattle.rc_check.specs.declared.grammar.Symbol.TheVariants as symbol
+use Rattle.rc_check.specs.declared.grammar.Rule.{Rule}
+use Rattle.rc_check.specs.declared.grammar.Rule.TheVariants as rule
+use Rattle.rc_check.specs.declared.fault.SheetKind.TheVariants.{Number}
+use Rattle.rc_check.specs.declared.role.Role.TheVariants.{DeckLocation as deck_role}
+use Rattle.rc_check.specs.Classes.{class_of_rule, class_at}
+use Rattle.rc_check.specs.SecondParts.{Standing, Part, form, parts_at, parts_in, parts_of, with_form, standing_in, part_at, bytes_of, word_in}
+use Rattle.rc_check.specs.SecondNames.{some_of, players_in, teams_in, maps_in, mention_of}
+use Rattle.rc_check.specs.SecondFaults.{is_twice, is_game, is_misplaced, faults_of, faults_behind, second_faults}
+use Rattle.rc_resolve.specs.Naming.{naming_of}
+use Rattle.rc_sheet.specs.ReadNames.{◌>>=◌, ensure, rule_at, name_at, owner_at, holder_at, is_loc_name, loc_parts, loc_rule, loc_at}
+use Rattle.rc_sheet.specs.ReadSetup.{Setup, Lines, no_line, within, count_at, members_at, team_rule, team_at, teams_at, face_words, home_of, deck_at, points_at, players_line, teams_line, deck_line, points_line, line_rule, line_at, lines_at, setup_of, setup_at}
+use Rattle.rc_resolve.specs.Reading.{read_deck}
+use Rattle.rc_sheet.specs.ReadSheet.{setup_rule, setup_form_at, sheet_with}
 use Rattle.rc_sheet.proofs.Means.{Means, nothing, something, anything, behind}
 use Rattle.rc_sheet.proofs.Shapes.{none_in_both, shape_of, line_place, three_only, four_only}
 use Rattle.rc_sheet.proofs.Faultless.{faultless}

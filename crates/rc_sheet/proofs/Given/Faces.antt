@@ -3,15 +3,15 @@ use Rattle.std.proofs.Common.{◌≡◌, ℕ, ◌+◌, ◌≤◌, zero, suc, tru
 use Rattle.std.specs.List.{AllByRecursion}
 use Rattle.std.proofs.lemmas.List.{append-nil, append_assoc}
 use Rattle.std.proofs.lemmas.Grind.{flat_map-append}
-use Rattle.rc_model.specs.Tree.{Tree, word, list, Trees, nil, cons}
-use Rattle.rc_grammar.specs.Grammar.{forms_of}
-use Rattle.rc_grammar.specs.Faults.{faults_at, faults_in, rule_of, place_at, count, fits}
-use Rattle.rc_grammar.specs.declared.grammar.Symbol.{Symbol}
-use Rattle.rc_grammar.specs.declared.grammar.Symbol.TheVariants as symbol
-use Rattle.rc_grammar.specs.declared.grammar.Rule.{Rule}
-use Rattle.rc_grammar.specs.declared.grammar.Rule.TheVariants as rule
-use Rattle.rc_faults.specs.declared.role.Role.TheVariants.{No as no_role, GivenValue as given_value}
-use Rattle.rc_faults.specs.SecondParts.{Standing, Part, atom, form, parts_at, parts_in, with_form, standing_in}
+use Rattle.rc_base.specs.Tree.{Tree, word, list, Trees, nil, cons}
+use Rattle.rc_check.specs.Grammar.{forms_of}
+use Rattle.rc_check.specs.Faults.{faults_at, faults_in, rule_of, place_at, count, fits}
+use Rattle.rc_check.specs.declared.grammar.Symbol.{Symbol}
+use Rattle.rc_check.specs.declared.grammar.Symbol.TheVariants as symbol
+use Rattle.rc_check.specs.declared.grammar.Rule.{Rule}
+use Rattle.rc_check.specs.declared.grammar.Rule.TheVariants as rule
+use Rattle.rc_check.specs.declared.role.Role.TheVariants.{No as no_role, GivenValue as given_value}
+use Rattle.rc_check.specs.SecondParts.{Standing, Part, atom, form, parts_at, parts_in, with_form, standing_in}
 use Rattle.rc_sheet.proofs.Shapes.{none_in_both, shape_of, rule_holds, no_list_at}
 use Rattle.rc_sheet.proofs.Bodies.{standing_at}
 

@@ -4,21 +4,21 @@ use Rattle.std.specs.Prelude.{codes}
 use Rattle.std.specs.List.{list_all, AllByRecursion}
 use Rattle.std.proofs.lemmas.Bool.{cond-true, cond-false, or_from}
 use Rattle.std.proofs.lemmas.List.{append-nil}
-use Rattle.rc_model.specs.Tree.{Tree, word, list, Trees, nil, cons}
-use Rattle.rc_sheet_model.specs.FormMentions.{is_kind, gathered, all_gathered, is_text}
-use Rattle.rc_grammar.specs.Keyword.{text_of}
-use Rattle.rc_grammar.specs.Faults.{faults_at, faults_in, place_at, count, fits}
-use Rattle.rc_grammar.specs.Faults.{is_kind as is_kind_word}
-use Rattle.rc_grammar.specs.declared.fault.SheetKind.TheVariants.{Shape}
-use Rattle.rc_grammar.specs.declared.keyword.Keyword.{Keyword}
-use Rattle.rc_grammar.specs.declared.keyword.Keyword.TheVariants as keyword
-use Rattle.rc_grammar.specs.declared.grammar.Symbol.{Symbol}
-use Rattle.rc_grammar.specs.declared.grammar.Symbol.TheVariants as symbol
-use Rattle.rc_grammar.specs.declared.grammar.Rule.{Rule}
-use Rattle.rc_grammar.specs.declared.grammar.Rule.TheVariants as rule
-use Rattle.rc_faults.specs.SecondParts.{Standing, Part, atom, form, standing_in}
-use Rattle.rc_faults.specs.SecondNames.{mention_of, locations_in, numbers_of, OwnedMention}
-use Rattle.rc_naming.specs.Mentions.{mention_by, loc_mention, num_mention}
+use Rattle.rc_base.specs.Tree.{Tree, word, list, Trees, nil, cons}
+use Rattle.rc_sheet_spec.specs.FormMentions.{is_kind, gathered, all_gathered, is_text}
+use Rattle.rc_check.specs.Keyword.{text_of}
+use Rattle.rc_check.specs.Faults.{faults_at, faults_in, place_at, count, fits}
+use Rattle.rc_check.specs.Faults.{is_kind as is_kind_word}
+use Rattle.rc_check.specs.declared.fault.SheetKind.TheVariants.{Shape}
+use Rattle.rc_check.specs.declared.keyword.Keyword.{Keyword}
+use Rattle.rc_check.specs.declared.keyword.Keyword.TheVariants as keyword
+use Rattle.rc_check.specs.declared.grammar.Symbol.{Symbol}
+use Rattle.rc_check.specs.declared.grammar.Symbol.TheVariants as symbol
+use Rattle.rc_check.specs.declared.grammar.Rule.{Rule}
+use Rattle.rc_check.specs.declared.grammar.Rule.TheVariants as rule
+use Rattle.rc_check.specs.SecondParts.{Standing, Part, atom, form, standing_in}
+use Rattle.rc_check.specs.SecondNames.{mention_of, locations_in, numbers_of, OwnedMention}
+use Rattle.rc_resolve.specs.Mentions.{mention_by, loc_mention, num_mention}
 use Rattle.rc_sheet.proofs.Shapes.{none_in_both, shape_of, rule_holds, two_only, three_only, refuses, refuted, atom_only, fixed_only, taken}
 use Rattle.rc_sheet.proofs.Bodies.{is_body_rule, body_rule, standing_at, all_refused}
 use Rattle.rc_sheet.proofs.Gathered.{by_atom, AllTell, quiet_row}

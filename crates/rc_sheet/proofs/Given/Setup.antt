@@ -4,22 +4,22 @@ use Rattle.std.specs.List.{AllZip, zip, range_with_len, IsDistinct, position_or_
 use Rattle.std.proofs.lemmas.Bool.{or_left, or_right}
 use Rattle.std.proofs.lemmas.Option.{same_Some}
 use Rattle.std.proofs.lemmas.Slice.Eq.{bytes_eq-Decides}
-use Rattle.rc_model.specs.Tree.{Tree, Trees}
-use Rattle.rc_model.specs.Deck.{Entry}
-use Rattle.rc_sheet_model.specs.Sheet.{SheetItems, Best, IntExpr}
-use Rattle.rc_sheet_model.specs.Mentions.{attr_of, value_of, in_setup}
-use Rattle.rc_sheet_model.specs.FormMentions.{points_map, attr_mentions, value_mentions, map_mentions}
-use Rattle.rc_sheet_model.specs.Naming.{Naming}
-use Rattle.rc_sheet_model.specs.StandsSetup.{StandsMap, lines_with, numbered, StandsSetup}
-use Rattle.rc_sheet_model.specs.WellFormed.{is_among, IsAttr, IsValue, IsMap}
-use Rattle.rc_grammar.specs.Faults.{faults}
-use Rattle.rc_grammar.specs.declared.grammar.Symbol.TheVariants as symbol
-use Rattle.rc_faults.specs.SecondParts.{parts_of}
-use Rattle.rc_faults.specs.SecondNames.{attributes_in, values_in, maps_in}
-use Rattle.rc_faults.specs.SecondFaults.{second_faults}
-use Rattle.rc_naming.specs.Naming.{naming_of}
-use Rattle.rc_reading.specs.ReadSetup.{Setup}
-use Rattle.rc_reading.specs.ReadSheet.{setup_form_at, sheet_with}
+use Rattle.rc_base.specs.Tree.{Tree, Trees}
+use Rattle.rc_base.specs.Deck.{Entry}
+use Rattle.rc_sheet_spec.specs.Sheet.{SheetItems, Best, IntExpr}
+use Rattle.rc_sheet_spec.specs.Mentions.{attr_of, value_of, in_setup}
+use Rattle.rc_sheet_spec.specs.FormMentions.{points_map, attr_mentions, value_mentions, map_mentions}
+use Rattle.rc_sheet_spec.specs.Naming.{Naming}
+use Rattle.rc_sheet_spec.specs.StandsSetup.{StandsMap, lines_with, numbered, StandsSetup}
+use Rattle.rc_sheet_spec.specs.WellFormed.{is_among, IsAttr, IsValue, IsMap}
+use Rattle.rc_check.specs.Faults.{faults}
+use Rattle.rc_check.specs.declared.grammar.Symbol.TheVariants as symbol
+use Rattle.rc_check.specs.SecondParts.{parts_of}
+use Rattle.rc_check.specs.SecondNames.{attributes_in, values_in, maps_in}
+use Rattle.rc_check.specs.SecondFaults.{second_faults}
+use Rattle.rc_resolve.specs.Naming.{naming_of}
+use Rattle.rc_sheet.specs.ReadSetup.{Setup}
+use Rattle.rc_sheet.specs.ReadSheet.{setup_form_at, sheet_with}
 use Rattle.rc_sheet.proofs.Means.{Means, weaker}
 use Rattle.rc_sheet.proofs.Among.{Among, among_either, named_among, one_of_all}
 use Rattle.rc_sheet.proofs.Found.Names.{get_among}

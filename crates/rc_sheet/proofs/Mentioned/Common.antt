@@ -4,11 +4,11 @@ use Rattle.std.proofs.Common.{◌≡◌, ℕ, nat_le, Bool, true, false, if◌th
 use Rattle.std.proofs.lemmas.Bool.{cond-false, and_parts, false≢true, or_parts}
 use Rattle.std.proofs.lemmas.List.{append-nil, map-append}
 use Rattle.std.proofs.lemmas.Grind.{flat_map-append}
-use Rattle.rc_model.specs.Tree.{Tree, word, list, Trees, nil, cons}
-use Rattle.rc_sheet_model.specs.Sheet.{Names}
-use Rattle.rc_sheet_model.specs.Mentions.{Mention, attr_of, value_of, map_of, loc_of, num_of, var_of}
-use Rattle.rc_sheet_model.specs.FormMentions.{is_kind, word_of, gathered, all_gathered, loc_word, num_word, is_measure, map_word, attr_word, value_word, is_binder, var_words, bound_words, all_var_words, is_text}
-use Rattle.rc_sheet_model.specs.Rows.{◌▸◌, End, AtLeast, Row, Word, Atom}
+use Rattle.rc_base.specs.Tree.{Tree, word, list, Trees, nil, cons}
+use Rattle.rc_sheet_spec.specs.Sheet.{Names}
+use Rattle.rc_sheet_spec.specs.Mentions.{Mention, attr_of, value_of, map_of, loc_of, num_of, var_of}
+use Rattle.rc_sheet_spec.specs.FormMentions.{is_kind, word_of, gathered, all_gathered, loc_word, num_word, is_measure, map_word, attr_word, value_word, is_binder, var_words, bound_words, all_var_words, is_text}
+use Rattle.rc_sheet_spec.specs.Rows.{◌▸◌, End, AtLeast, Row, Word, Atom}
 
 -- the six kinds of names
 pub data Kind : Type 0 where

@@ -1,15 +1,15 @@
 -- What expressions, tests, effects, alternatives and items mention are the words that their forms mention, in order.
 use Prim.Native.String.{String}
 use Rattle.std.proofs.Common.{◌≡◌, ℕ, false, true, List, [], ◌∷◌, ◌++◌, codes, flat_map, refl, sym, subst, ◌∙◌, append_assoc, append-nil}
-use Rattle.rc_model.specs.Tree.{Tree, word, Trees}
-use Rattle.rc_sheet_model.specs.Sheet.{Names, card_sort, group_sort, Class, game_class, player_class, team_class, Who, top, bottom, Loc, CardExpr, card_var, top_card, bottom_card, max_card, min_card, CollExpr, group_var, cards_in, filtered, union_of, known_in, CollExprs, no_coll, coll, IntExpr, literal, number, size_of, sum_of, worth_of, add, subtract, multiply, Test, eq_int, eq_card, eq_attr, eq_who, ne, less, less_eq, more, more_eq, has_value, and_of, or_of, not_of, all_of, any_of, Tests, no_test, test, Domain, each_player, each_card, each_group, Effect, move, move_all, remember, forget, shuffle, set_to, increase, decrease, when, repeat, for_each, next_is, turn_round, peek, Effects, no_effect, effect, Alt, do_alt, if_alt, any_alt, SheetItem, do_item, stage, choice, SheetItems, no_item, item}
-use Rattle.rc_sheet_model.specs.Sheet.{End as Spot}
-use Rattle.rc_sheet_model.specs.Mentions.{Mention, attr_name, in_loc, in_card, in_coll, in_colls, in_int, in_test, in_tests, in_domain, in_effect, in_effects, in_alt, in_item, in_items}
-use Rattle.rc_sheet_model.specs.Rows.{◌▸◌, End, AtLeast, Row, Atom}
-use Rattle.rc_sheet_model.specs.Naming.{Naming, Scope, bind, sort_of, Named}
-use Rattle.rc_sheet_model.specs.StandsExpressions.{StandsOwner, Two, TwoOwners, StandsCard, StandsColl, StandColls, StandsInt, StandsTest, StandTests, StandsRange, StandsDomain}
-use Rattle.rc_sheet_model.specs.StandsEffects.{StandsSpot, StandsEffect, StandEffects}
-use Rattle.rc_sheet_model.specs.StandsItems.{StandsAlt, StandAlts, StandsClass, StandsItem, StandItems}
+use Rattle.rc_base.specs.Tree.{Tree, word, Trees}
+use Rattle.rc_sheet_spec.specs.Sheet.{Names, card_sort, group_sort, Class, game_class, player_class, team_class, Who, top, bottom, Loc, CardExpr, card_var, top_card, bottom_card, max_card, min_card, CollExpr, group_var, cards_in, filtered, union_of, known_in, CollExprs, no_coll, coll, IntExpr, literal, number, size_of, sum_of, worth_of, add, subtract, multiply, Test, eq_int, eq_card, eq_attr, eq_who, ne, less, less_eq, more, more_eq, has_value, and_of, or_of, not_of, all_of, any_of, Tests, no_test, test, Domain, each_player, each_card, each_group, Effect, move, move_all, remember, forget, shuffle, set_to, increase, decrease, when, repeat, for_each, next_is, turn_round, peek, Effects, no_effect, effect, Alt, do_alt, if_alt, any_alt, SheetItem, do_item, stage, choice, SheetItems, no_item, item}
+use Rattle.rc_sheet_spec.specs.Sheet.{End as Spot}
+use Rattle.rc_sheet_spec.specs.Mentions.{Mention, attr_name, in_loc, in_card, in_coll, in_colls, in_int, in_test, in_tests, in_domain, in_effect, in_effects, in_alt, in_item, in_items}
+use Rattle.rc_sheet_spec.specs.Rows.{◌▸◌, End, AtLeast, Row, Atom}
+use Rattle.rc_sheet_spec.specs.Naming.{Naming, Scope, bind, sort_of, Named}
+use Rattle.rc_sheet_spec.specs.StandsExpressions.{StandsOwner, Two, TwoOwners, StandsCard, StandsColl, StandColls, StandsInt, StandsTest, StandTests, StandsRange, StandsDomain}
+use Rattle.rc_sheet_spec.specs.StandsEffects.{StandsSpot, StandsEffect, StandEffects}
+use Rattle.rc_sheet_spec.specs.StandsItems.{StandsAlt, StandAlts, StandsClass, StandsItem, StandItems}
 use Rattle.rc_sheet.proofs.Mentioned.Common.{Kind, is_sort_word, tells, Speaks, Speak, end_speaks, then_speak, last_speaks, atom_then, at_least_speak, plain_speaks, SpeakFirst, none_speak, more_speak, parts_speak}
 use Rattle.rc_sheet.proofs.Mentioned.Rows.{nothing_speaks, text_speaks, variable_speaks, literal_speaks, owner_speaks, loc_speaks, num_speaks, attr_speaks, map_speaks, value_speaks, binder_speaks}
 

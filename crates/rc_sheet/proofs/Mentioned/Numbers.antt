@@ -1,25 +1,25 @@
 -- A sheet that is read with the names of its form has its names, stages and choices numbered by their first mention.
 use Rattle.std.proofs.Common.{◌≡◌, length, map, Some, refl, sym, subst, ap, ◌∙◌}
-use Rattle.rc_model.specs.Tree.{Tree, word, list, Trees, cons}
-use Rattle.rc_sheet_model.specs.Sheet.{Sheet}
-use Rattle.rc_sheet_model.specs.FormMentions.{names_of, AreNames}
-use Rattle.rc_model.specs.Numbers.{below}
-use Rattle.rc_sheet_model.specs.Numbering.{IsNumbered}
-use Rattle.rc_sheet_model.specs.Naming.{Naming, sheet_naming}
-use Rattle.rc_sheet_model.specs.Stands.{Stands}
-use Rattle.rc_naming.specs.Naming.{naming_of}
-use Rattle.rc_naming.proofs.Whole.{loc_numbers, num_numbers}
-use Rattle.rc_reading.specs.ReadNames.{rule_at}
-use Rattle.rc_reading.specs.ReadItems.{body_at}
-use Rattle.rc_reading.specs.ReadSheet.{setup_form_at, game_parts, game_rule, sheet_at, sheet_with}
+use Rattle.rc_base.specs.Tree.{Tree, word, list, Trees, cons}
+use Rattle.rc_sheet_spec.specs.Sheet.{Sheet}
+use Rattle.rc_sheet_spec.specs.FormMentions.{names_of, AreNames}
+use Rattle.rc_base.specs.Numbers.{below}
+use Rattle.rc_sheet_spec.specs.Numbering.{IsNumbered}
+use Rattle.rc_sheet_spec.specs.Naming.{Naming, sheet_naming}
+use Rattle.rc_sheet_spec.specs.Stands.{Stands}
+use Rattle.rc_resolve.specs.Naming.{naming_of}
+use Rattle.rc_resolve.proofs.Whole.{loc_numbers, num_numbers}
+use Rattle.rc_sheet.specs.ReadNames.{rule_at}
+use Rattle.rc_sheet.specs.ReadItems.{body_at}
+use Rattle.rc_sheet.specs.ReadSheet.{setup_form_at, game_parts, game_rule, sheet_at, sheet_with}
 use Rattle.rc_sheet.proofs.Means.{Means, nothing, something, means_so, behind, anything}
 use Rattle.rc_sheet.proofs.ReadOff.Sheet.{sheet_means}
 use Rattle.rc_sheet.proofs.Mentioned.Common.{attrs, values, maps, locs, nums, vars}
 use Rattle.rc_sheet.proofs.Mentioned.Sheet.{names_numbered}
 use Rattle.rc_sheet.proofs.Mentioned.Stages.{AreInOrder, body_in_order}
-use Rattle.rc_grammar.specs.declared.grammar.Symbol.TheVariants as symbol
-use Rattle.rc_grammar.specs.declared.grammar.Rule.{Rule}
-use Rattle.rc_grammar.specs.declared.grammar.Rule.TheVariants as rule
+use Rattle.rc_check.specs.declared.grammar.Symbol.TheVariants as symbol
+use Rattle.rc_check.specs.declared.grammar.Rule.{Rule}
+use Rattle.rc_check.specs.declared.grammar.Rule.TheVariants as rule
 
 -- a sheet that is read has this naming, and its stages and choices are in order
 pub record IsReadBy (naming : Naming) (sheet : Sheet) : Type 0 where

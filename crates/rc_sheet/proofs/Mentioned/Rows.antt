@@ -5,15 +5,15 @@ use Rattle.std.proofs.lemmas.Bool.{cond-true, cond-false, or_from, false_from_ne
 use Rattle.std.proofs.lemmas.List.{append-nil}
 use Rattle.std.proofs.lemmas.Option.{get_or_from_slice_get, none-some, same_Some}
 use Rattle.std.proofs.lemmas.Slice.Eq.{bytes_eq-Decides}
-use Rattle.rc_model.specs.Literal.{integer}
-use Rattle.rc_model.specs.Tree.{Tree, word, list, Trees, nil, cons}
-use Rattle.rc_sheet_model.specs.Sheet.{Names, Sort, player_sort, LocKind, vloc, iloc, hloc, mem, LocName, Who, game, current_player, current_team, team_of_current, team_of_var, who_var, Loc, Num}
-use Rattle.rc_sheet_model.specs.Mentions.{Mention, attr_name, value_name, map_name, loc_name, num_name, var_name, in_loc, in_num}
-use Rattle.rc_sheet_model.specs.FormMentions.{is_kind, is_measure, is_binder, word_of, var_words, all_var_words, is_text}
-use Rattle.rc_sheet_model.specs.Rows.{◌▸◌, End, Row, Word, Atom}
-use Rattle.rc_model.specs.Words.{is_variable}
-use Rattle.rc_sheet_model.specs.Naming.{Naming, Scope, kind_word, Named, Binder, InScope, Literal, KindOf}
-use Rattle.rc_sheet_model.specs.StandsExpressions.{StandsOwner, StandsHolder, StandsLoc, StandsNum}
+use Rattle.rc_base.specs.Literal.{integer}
+use Rattle.rc_base.specs.Tree.{Tree, word, list, Trees, nil, cons}
+use Rattle.rc_sheet_spec.specs.Sheet.{Names, Sort, player_sort, LocKind, vloc, iloc, hloc, mem, LocName, Who, game, current_player, current_team, team_of_current, team_of_var, who_var, Loc, Num}
+use Rattle.rc_sheet_spec.specs.Mentions.{Mention, attr_name, value_name, map_name, loc_name, num_name, var_name, in_loc, in_num}
+use Rattle.rc_sheet_spec.specs.FormMentions.{is_kind, is_measure, is_binder, word_of, var_words, all_var_words, is_text}
+use Rattle.rc_sheet_spec.specs.Rows.{◌▸◌, End, Row, Word, Atom}
+use Rattle.rc_base.specs.Words.{is_variable}
+use Rattle.rc_sheet_spec.specs.Naming.{Naming, Scope, kind_word, Named, Binder, InScope, Literal, KindOf}
+use Rattle.rc_sheet_spec.specs.StandsExpressions.{StandsOwner, StandsHolder, StandsLoc, StandsNum}
 use Rattle.rc_sheet.proofs.Mentioned.Common.{Kind, attrs, values, maps, locs, nums, vars, said, words_in, all_words_in, own, said-append, words_in-word, words_in-list, Says, SayAll, behind_silent, behind_word, behind_part, no_part, text_silent, alone, is_sort_word, Speaks, Speak, end_speaks, last_speaks, atom_then, tells, IsHead, head_at, IsPlain, own-plain, no_kind, no_number, row_other, plain_speaks}
 
 -- what depends on the first byte of a variable

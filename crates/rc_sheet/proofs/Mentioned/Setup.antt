@@ -4,15 +4,15 @@ use Rattle.std.specs.List.{AllZip}
 use Rattle.std.proofs.lemmas.List.{append-nil}
 use Rattle.std.proofs.lemmas.Grind.{flat_map-append}
 use Rattle.rc_deck.proofs.Orders.{AllZip-append}
-use Rattle.rc_model.specs.Tree.{Tree, word, list, Trees, nil, cons}
-use Rattle.rc_model.specs.Deck.{Groups, no_group, group, Branches, no_branch, branch, Entry}
-use Rattle.rc_sheet_model.specs.Sheet.{Names, game, Loc, DeckLine}
-use Rattle.rc_sheet_model.specs.Mentions.{Mention, in_loc, attr_name, value_name, loc_name, in_groups, in_branches, in_deck, in_entry, in_map}
-use Rattle.rc_sheet_model.specs.FormMentions.{words_of, group_attr_words, branch_attr_words, group_value_words, branch_value_words, deck_loc, deck_groups, points_map, points_entries, entry_attr_words, entry_value_words}
-use Rattle.rc_sheet_model.specs.Rows.{◌▸◌, End, Row, Atom}
-use Rattle.rc_sheet_model.specs.Naming.{Naming, KindOf}
-use Rattle.rc_sheet_model.specs.Naming.{Named as StandsName}
-use Rattle.rc_sheet_model.specs.StandsSetup.{StandsGroups, StandsBranches, StandsDeck, StandValues, StandEntries, StandsMap}
+use Rattle.rc_base.specs.Tree.{Tree, word, list, Trees, nil, cons}
+use Rattle.rc_base.specs.Deck.{Groups, no_group, group, Branches, no_branch, branch, Entry}
+use Rattle.rc_sheet_spec.specs.Sheet.{Names, game, Loc, DeckLine}
+use Rattle.rc_sheet_spec.specs.Mentions.{Mention, in_loc, attr_name, value_name, loc_name, in_groups, in_branches, in_deck, in_entry, in_map}
+use Rattle.rc_sheet_spec.specs.FormMentions.{words_of, group_attr_words, branch_attr_words, group_value_words, branch_value_words, deck_loc, deck_groups, points_map, points_entries, entry_attr_words, entry_value_words}
+use Rattle.rc_sheet_spec.specs.Rows.{◌▸◌, End, Row, Atom}
+use Rattle.rc_sheet_spec.specs.Naming.{Naming, KindOf}
+use Rattle.rc_sheet_spec.specs.Naming.{Named as StandsName}
+use Rattle.rc_sheet_spec.specs.StandsSetup.{StandsGroups, StandsBranches, StandsDeck, StandValues, StandEntries, StandsMap}
 use Rattle.rc_sheet.proofs.Mentioned.Common.{Kind, attrs, values, maps, locs, nums, vars, of_kind, names_in, said, said-append, Says}
 use Rattle.rc_sheet.proofs.Mentioned.Rows.{named_word, loc_list_says}
 

@@ -2,17 +2,17 @@
 -- numbered by their first mention.
 use Rattle.std.proofs.Common.{◌≡◌, ℕ, List, [], ◌∷◌, ◌++◌, flat_map, refl, sym, ap, ap₂, ◌∙◌, append_assoc}
 use Rattle.std.proofs.lemmas.List.{append-nil}
-use Rattle.rc_model.specs.Tree.{Tree, word, list, Trees, nil, cons}
-use Rattle.rc_sheet_model.specs.Sheet.{Names, Best, highest, lowest, Sheet}
-use Rattle.rc_sheet_model.specs.Mentions.{in_deck, in_map, in_items, in_int, mentions}
-use Rattle.rc_sheet_model.specs.FormMentions.{body, deck_lines, points_lines, points_map, deck_loc, attr_mentions, value_mentions, map_mentions, loc_mentions, num_mentions, var_mentions, AreNames, all_gathered, map_word, loc_word, num_word, all_var_words}
-use Rattle.rc_model.specs.Words.{different}
-use Rattle.rc_sheet_model.specs.Numbering.{mentioned}
-use Rattle.rc_sheet_model.specs.Rows.{◌▸◌, End}
-use Rattle.rc_sheet_model.specs.Naming.{self_scope, sheet_naming}
-use Rattle.rc_sheet_model.specs.StandsSetup.{StandsSetup, numbered, lines_with}
-use Rattle.rc_sheet_model.specs.StandsItems.{StandItems}
-use Rattle.rc_sheet_model.specs.Stands.{StandsBest, StandsScoring, Stands}
+use Rattle.rc_base.specs.Tree.{Tree, word, list, Trees, nil, cons}
+use Rattle.rc_sheet_spec.specs.Sheet.{Names, Best, highest, lowest, Sheet}
+use Rattle.rc_sheet_spec.specs.Mentions.{in_deck, in_map, in_items, in_int, mentions}
+use Rattle.rc_sheet_spec.specs.FormMentions.{body, deck_lines, points_lines, points_map, deck_loc, attr_mentions, value_mentions, map_mentions, loc_mentions, num_mentions, var_mentions, AreNames, all_gathered, map_word, loc_word, num_word, all_var_words}
+use Rattle.rc_base.specs.Words.{different}
+use Rattle.rc_sheet_spec.specs.Numbering.{mentioned}
+use Rattle.rc_sheet_spec.specs.Rows.{◌▸◌, End}
+use Rattle.rc_sheet_spec.specs.Naming.{self_scope, sheet_naming}
+use Rattle.rc_sheet_spec.specs.StandsSetup.{StandsSetup, numbered, lines_with}
+use Rattle.rc_sheet_spec.specs.StandsItems.{StandItems}
+use Rattle.rc_sheet_spec.specs.Stands.{StandsBest, StandsScoring, Stands}
 use Rattle.rc_sheet.proofs.Mentioned.Common.{Kind, attrs, values, maps, locs, nums, vars, of_kind, names_in, said, all_words_in, said-append, SayAll, Speaks, then_speak, last_speaks, plain_speaks}
 use Rattle.rc_sheet.proofs.Mentioned.Rows.{text_speaks}
 use Rattle.rc_sheet.proofs.Mentioned.Forms.{int_speaks, items_then}

@@ -1,20 +1,20 @@
 -- Stages and choices that are read are numbered in the order of the text.
 use Rattle.std.proofs.Common.{◌≡◌, ℕ, ◌+◌, nat_lt, nat_le, List, [], ◌∷◌, ◌++◌, length, Option, refl, sym, subst, ap₂}
 use Rattle.std.specs.List.{range_with_len}
-use Rattle.rc_model.specs.Tree.{Tree, word, list, Trees, nil, cons}
-use Rattle.rc_sheet_model.specs.Sheet.{Class, player_class, team_class, Test, Alt, SheetItem, stage, choice, SheetItems, no_item}
-use Rattle.rc_model.specs.Limits.{most_stages, most_sites}
-use Rattle.rc_sheet_model.specs.Mentions.{stages_in_item, stages_in, sites_in_item, sites_in}
-use Rattle.rc_model.specs.Numbers.{below}
-use Rattle.rc_sheet_model.specs.Naming.{Naming}
-use Rattle.rc_grammar.specs.Faults.{count}
-use Rattle.rc_reading.specs.ReadNames.{◌>>=◌, ensure, rule_at}
-use Rattle.rc_reading.specs.ReadEffects.{effects_at, alts_at}
-use Rattle.rc_reading.specs.ReadItems.{Begun, none_begun, with_stage, with_site, stage_of, choice_of, end_at, item_at, item_rule, items_at, score_at, but_last, last_of, body_at}
+use Rattle.rc_base.specs.Tree.{Tree, word, list, Trees, nil, cons}
+use Rattle.rc_sheet_spec.specs.Sheet.{Class, player_class, team_class, Test, Alt, SheetItem, stage, choice, SheetItems, no_item}
+use Rattle.rc_base.specs.Limits.{most_stages, most_sites}
+use Rattle.rc_sheet_spec.specs.Mentions.{stages_in_item, stages_in, sites_in_item, sites_in}
+use Rattle.rc_base.specs.Numbers.{below}
+use Rattle.rc_sheet_spec.specs.Naming.{Naming}
+use Rattle.rc_check.specs.Faults.{count}
+use Rattle.rc_sheet.specs.ReadNames.{◌>>=◌, ensure, rule_at}
+use Rattle.rc_sheet.specs.ReadEffects.{effects_at, alts_at}
+use Rattle.rc_sheet.specs.ReadItems.{Begun, none_begun, with_stage, with_site, stage_of, choice_of, end_at, item_at, item_rule, items_at, score_at, but_last, last_of, body_at}
 use Rattle.rc_sheet.proofs.Means.{Means, nothing, something, weaker, mapped, behind, both_mean, ensured, anything}
-use Rattle.rc_grammar.specs.declared.grammar.Symbol.TheVariants as symbol
-use Rattle.rc_grammar.specs.declared.grammar.Rule.{Rule}
-use Rattle.rc_grammar.specs.declared.grammar.Rule.TheVariants as rule
+use Rattle.rc_check.specs.declared.grammar.Symbol.TheVariants as symbol
+use Rattle.rc_check.specs.declared.grammar.Rule.{Rule}
+use Rattle.rc_check.specs.declared.grammar.Rule.TheVariants as rule
 
 -- the numbers are counted one by one, from one number on and up to another
 abbrev pub IsRun : ℕ → List ℕ → ℕ → Type 0

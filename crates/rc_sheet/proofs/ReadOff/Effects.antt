@@ -1,21 +1,21 @@
 -- What is read stands for its form: spots, effects, domains and alternatives.
 use Rattle.std.proofs.Common.{ℕ, [], ◌∷◌, arith}
-use Rattle.rc_model.specs.Tree.{Tree, word, list, Trees, nil, cons}
-use Rattle.rc_sheet_model.specs.Sheet.{top, bottom, Domain, each_player, each_card, each_group, move, move_all, remember, forget, shuffle, set_to, increase, decrease, when, repeat, next_is, turn_round, peek, no_effect, effect, do_alt, if_alt}
-use Rattle.rc_sheet_model.specs.Naming.{Naming, Scope, bind, sort_of}
-use Rattle.rc_sheet_model.specs.StandsExpressions.{StandsDomain, StandsRange}
-use Rattle.rc_sheet_model.specs.StandsEffects.{StandsSpot, StandsEffect, StandEffects}
-use Rattle.rc_sheet_model.specs.StandsItems.{StandsAlt, StandAlts}
-use Rattle.rc_reading.specs.ReadNames.{rule_at, binder_at, owner_at, loc_at}
-use Rattle.rc_reading.specs.ReadExpressions.{card_at, coll_rule, range_at}
-use Rattle.rc_reading.specs.ReadEffects.{spot_rule, spot_at, number_rule, plain_rule, effect_at, effect_rule, effects_at, domain_rule, domain_at, alt_at, alt_rule, alts_at}
+use Rattle.rc_base.specs.Tree.{Tree, word, list, Trees, nil, cons}
+use Rattle.rc_sheet_spec.specs.Sheet.{top, bottom, Domain, each_player, each_card, each_group, move, move_all, remember, forget, shuffle, set_to, increase, decrease, when, repeat, next_is, turn_round, peek, no_effect, effect, do_alt, if_alt}
+use Rattle.rc_sheet_spec.specs.Naming.{Naming, Scope, bind, sort_of}
+use Rattle.rc_sheet_spec.specs.StandsExpressions.{StandsDomain, StandsRange}
+use Rattle.rc_sheet_spec.specs.StandsEffects.{StandsSpot, StandsEffect, StandEffects}
+use Rattle.rc_sheet_spec.specs.StandsItems.{StandsAlt, StandAlts}
+use Rattle.rc_sheet.specs.ReadNames.{rule_at, binder_at, owner_at, loc_at}
+use Rattle.rc_sheet.specs.ReadExpressions.{card_at, coll_rule, range_at}
+use Rattle.rc_sheet.specs.ReadEffects.{spot_rule, spot_at, number_rule, plain_rule, effect_at, effect_rule, effects_at, domain_rule, domain_at, alt_at, alt_rule, alts_at}
 use Rattle.rc_sheet.proofs.Means.{Means, nothing, something, weaker, mapped, behind, paired, both_mean}
 use Rattle.rc_sheet.proofs.ReadOff.Names.{Told, told_at, least_left, two_words, name_means, binder_means, owner_means, loc_means, num_means}
 use Rattle.rc_sheet.proofs.ReadOff.Expressions.{card_means, coll_means, coll_rule_means, int_means, test_means, range_means}
-use Rattle.rc_grammar.specs.declared.keyword.Keyword.TheVariants as keyword
-use Rattle.rc_grammar.specs.declared.grammar.Symbol.TheVariants as symbol
-use Rattle.rc_grammar.specs.declared.grammar.Rule.{Rule}
-use Rattle.rc_grammar.specs.declared.grammar.Rule.TheVariants as rule
+use Rattle.rc_check.specs.declared.keyword.Keyword.TheVariants as keyword
+use Rattle.rc_check.specs.declared.grammar.Symbol.TheVariants as symbol
+use Rattle.rc_check.specs.declared.grammar.Rule.{Rule}
+use Rattle.rc_check.specs.declared.grammar.Rule.TheVariants as rule
 
 -- a spot, by its rule
 spot_rule_means : (naming : Naming) (scope : Scope) (from to : ℕ) (rule : Rule) (parts : Trees) → Told rule parts

@@ -1,22 +1,22 @@
 -- What is read stands for its form: cards, lists of cards, numbers, sides and tests.
 use Rattle.std.proofs.Common.{◌≡◌, ℕ, true, List, Option, Some, None, slice_get, option_map, refl, sym, subst, ap, ◌∙◌, arith}
-use Rattle.rc_model.specs.Literal.{integer}
-use Rattle.rc_model.specs.Tree.{Tree, word, list, Trees, nil, cons}
-use Rattle.rc_sheet_model.specs.Sheet.{Sort, player_sort, card_sort, group_sort, Who, who_var, CardExpr, card_var, top_card, bottom_card, max_card, min_card, CollExpr, group_var, cards_in, union_of, known_in, no_coll, coll, IntExpr, literal, number, size_of, sum_of, worth_of, add, subtract, multiply, Test, eq_int, eq_card, eq_attr, eq_who, ne, less, less_eq, more, more_eq, and_of, or_of, not_of, no_test, test, each_player, each_card}
-use Rattle.rc_sheet_model.specs.Rows.{◌▸◌, End, Row, Atom}
-use Rattle.rc_sheet_model.specs.Naming.{Naming, Variable, Scope, bind, sort_of, class_of, Named}
-use Rattle.rc_model.specs.Words.{is_variable}
-use Rattle.rc_sheet_model.specs.StandsExpressions.{StandsOwner, StandsCard, StandsColl, StandColls, StandsInt, StandsTest, StandTests, StandsRange}
-use Rattle.rc_sheet_model.specs.Sheet.{same_class}
-use Rattle.rc_grammar.specs.Faults.{is_form_word}
-use Rattle.rc_reading.specs.ReadNames.{◌>>=◌, rule_at, name_at, binder_at, place_in, variable_in, loc_parts, loc_at, num_parts}
-use Rattle.rc_reading.specs.ReadExpressions.{range_of, Side, number_side, card_side, value_side, owner_side, side_of_sort, variable_side, side_word, equal_test, side_by, card_at, card_rule, coll_at, coll_rule, colls_at, int_at, int_rule, side_at, value_parts, test_at, test_rule, tests_at, range_at}
+use Rattle.rc_base.specs.Literal.{integer}
+use Rattle.rc_base.specs.Tree.{Tree, word, list, Trees, nil, cons}
+use Rattle.rc_sheet_spec.specs.Sheet.{Sort, player_sort, card_sort, group_sort, Who, who_var, CardExpr, card_var, top_card, bottom_card, max_card, min_card, CollExpr, group_var, cards_in, union_of, known_in, no_coll, coll, IntExpr, literal, number, size_of, sum_of, worth_of, add, subtract, multiply, Test, eq_int, eq_card, eq_attr, eq_who, ne, less, less_eq, more, more_eq, and_of, or_of, not_of, no_test, test, each_player, each_card}
+use Rattle.rc_sheet_spec.specs.Rows.{◌▸◌, End, Row, Atom}
+use Rattle.rc_sheet_spec.specs.Naming.{Naming, Variable, Scope, bind, sort_of, class_of, Named}
+use Rattle.rc_base.specs.Words.{is_variable}
+use Rattle.rc_sheet_spec.specs.StandsExpressions.{StandsOwner, StandsCard, StandsColl, StandColls, StandsInt, StandsTest, StandTests, StandsRange}
+use Rattle.rc_sheet_spec.specs.Sheet.{same_class}
+use Rattle.rc_check.specs.Faults.{is_form_word}
+use Rattle.rc_sheet.specs.ReadNames.{◌>>=◌, rule_at, name_at, binder_at, place_in, variable_in, loc_parts, loc_at, num_parts}
+use Rattle.rc_sheet.specs.ReadExpressions.{range_of, Side, number_side, card_side, value_side, owner_side, side_of_sort, variable_side, side_word, equal_test, side_by, card_at, card_rule, coll_at, coll_rule, colls_at, int_at, int_rule, side_at, value_parts, test_at, test_rule, tests_at, range_at}
 use Rattle.rc_sheet.proofs.Means.{Means, nothing, something, means_if, weaker, mapped, behind, paired, both_mean, either}
 use Rattle.rc_sheet.proofs.ReadOff.Names.{word_form, Told, told_at, least_left, name_means, binder_means, classes_same, place_means, variable_is, variable_means, owner_rule_means, loc_parts_mean, loc_means, num_parts_mean, map_means}
-use Rattle.rc_grammar.specs.declared.keyword.Keyword.TheVariants as keyword
-use Rattle.rc_grammar.specs.declared.grammar.Symbol.TheVariants as symbol
-use Rattle.rc_grammar.specs.declared.grammar.Rule.{Rule}
-use Rattle.rc_grammar.specs.declared.grammar.Rule.TheVariants as rule
+use Rattle.rc_check.specs.declared.keyword.Keyword.TheVariants as keyword
+use Rattle.rc_check.specs.declared.grammar.Symbol.TheVariants as symbol
+use Rattle.rc_check.specs.declared.grammar.Rule.{Rule}
+use Rattle.rc_check.specs.declared.grammar.Rule.TheVariants as rule
 
 -- `player`, or else cards
 pub range_of_means : (naming : Naming) (scope : Scope) (tree : Tree) (cards : Option CollExpr)

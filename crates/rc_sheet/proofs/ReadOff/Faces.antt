@@ -3,17 +3,17 @@ use Rattle.std.proofs.Common.{◌≡◌, ℕ, true, nat_le, List, [], ◌∷◌,
 use Rattle.std.specs.Prelude.{codes}
 use Rattle.std.specs.Option.{option_and_then}
 use Rattle.std.proofs.lemmas.Slice.Eq.{bytes_eq-Decides}
-use Rattle.rc_model.specs.Tree.{Tree, word, list, Trees, nil, cons, count}
-use Rattle.rc_model.specs.Literal.{integer}
-use Rattle.rc_model.specs.Deck.{Groups, no_group, group, Branches, no_branch, branch, Entry}
-use Rattle.rc_sheet_model.specs.Rows.{◌▸◌, End, Row, Word, Atom}
-use Rattle.rc_sheet_model.specs.Rows.{Some as Full}
-use Rattle.rc_sheet_model.specs.Naming.{Naming, Named, Literal}
-use Rattle.rc_sheet_model.specs.StandsSetup.{StandsGroups, StandsBranches, StandValues, StandEntries}
-use Rattle.rc_setup.specs.Naming.{number_of}
-use Rattle.rc_setup.specs.Reading.{both, unless_nil, plain, read_groups, read_group, read_branch_list, read_branches, read_branch, is_word, read_deck, unclamped, read_values, read_value_list, read_points, entry_with, read_entry, read_all_entries, read_entries}
-use Rattle.rc_reading.specs.ReadSetup.{face_words}
-use Rattle.rc_reading.proofs.Faces.{number_of_name}
+use Rattle.rc_base.specs.Tree.{Tree, word, list, Trees, nil, cons, count}
+use Rattle.rc_base.specs.Literal.{integer}
+use Rattle.rc_base.specs.Deck.{Groups, no_group, group, Branches, no_branch, branch, Entry}
+use Rattle.rc_sheet_spec.specs.Rows.{◌▸◌, End, Row, Word, Atom}
+use Rattle.rc_sheet_spec.specs.Rows.{Some as Full}
+use Rattle.rc_sheet_spec.specs.Naming.{Naming, Named, Literal}
+use Rattle.rc_sheet_spec.specs.StandsSetup.{StandsGroups, StandsBranches, StandValues, StandEntries}
+use Rattle.rc_resolve.specs.NamedNumbers.{number_of}
+use Rattle.rc_resolve.specs.Reading.{both, unless_nil, plain, read_groups, read_group, read_branch_list, read_branches, read_branch, is_word, read_deck, unclamped, read_values, read_value_list, read_points, entry_with, read_entry, read_all_entries, read_entries}
+use Rattle.rc_sheet.specs.ReadSetup.{face_words}
+use Rattle.rc_sheet.proofs.Faces.{number_of_name}
 use Rattle.rc_sheet.proofs.Means.{Means, nothing, something, weaker, mapped, either, made_of}
 use Rattle.rc_sheet.proofs.ReadOff.Names.{name_means}
 

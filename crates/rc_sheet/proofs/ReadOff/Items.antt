@@ -1,28 +1,28 @@
 -- What is read stands for its form: items, the scoring, and the body of a sheet.
 use Rattle.std.proofs.Common.{◌≡◌, ℕ, nat_lt, nat_le, List, [], Option, Some, None, sym, subst, arith}
 use Rattle.std.proofs.lemmas.Option.{none-some, same_Some}
-use Rattle.rc_model.specs.Tree.{Tree, word, list, Trees, nil, cons}
-use Rattle.rc_sheet_model.specs.Sheet.{Class, player_class, team_class, Test, IntExpr, Best, highest, lowest, Alt, stage, choice, SheetItems, no_item, item}
-use Rattle.rc_model.specs.Limits.{most_stages, most_sites}
-use Rattle.rc_sheet_model.specs.Rows.{◌▸◌, End, AtLeast, Row, Atom}
-use Rattle.rc_sheet_model.specs.Rows.{Some as SomeOf}
-use Rattle.rc_sheet_model.specs.Naming.{Naming, self_scope}
-use Rattle.rc_sheet_model.specs.StandsExpressions.{StandsTest, StandsInt}
-use Rattle.rc_sheet_model.specs.StandsItems.{StandAlts, StandsClass, StandsItem, StandItems}
-use Rattle.rc_sheet_model.specs.Stands.{StandsBest}
-use Rattle.rc_grammar.specs.Faults.{is_form_word, count}
-use Rattle.rc_reading.specs.ReadNames.{◌>>=◌, ensure, rule_at}
-use Rattle.rc_reading.specs.ReadExpressions.{test_at}
-use Rattle.rc_reading.specs.ReadEffects.{effects_at}
-use Rattle.rc_reading.specs.ReadItems.{Begun, none_begun, with_stage, with_site, stage_of, choice_of, end_rule, end_at, item_at, item_rule, items_at, best_at, score_rule, score_at, but_last, last_of, body_at}
+use Rattle.rc_base.specs.Tree.{Tree, word, list, Trees, nil, cons}
+use Rattle.rc_sheet_spec.specs.Sheet.{Class, player_class, team_class, Test, IntExpr, Best, highest, lowest, Alt, stage, choice, SheetItems, no_item, item}
+use Rattle.rc_base.specs.Limits.{most_stages, most_sites}
+use Rattle.rc_sheet_spec.specs.Rows.{◌▸◌, End, AtLeast, Row, Atom}
+use Rattle.rc_sheet_spec.specs.Rows.{Some as SomeOf}
+use Rattle.rc_sheet_spec.specs.Naming.{Naming, self_scope}
+use Rattle.rc_sheet_spec.specs.StandsExpressions.{StandsTest, StandsInt}
+use Rattle.rc_sheet_spec.specs.StandsItems.{StandAlts, StandsClass, StandsItem, StandItems}
+use Rattle.rc_sheet_spec.specs.Stands.{StandsBest}
+use Rattle.rc_check.specs.Faults.{is_form_word, count}
+use Rattle.rc_sheet.specs.ReadNames.{◌>>=◌, ensure, rule_at}
+use Rattle.rc_sheet.specs.ReadExpressions.{test_at}
+use Rattle.rc_sheet.specs.ReadEffects.{effects_at}
+use Rattle.rc_sheet.specs.ReadItems.{Begun, none_begun, with_stage, with_site, stage_of, choice_of, end_rule, end_at, item_at, item_rule, items_at, best_at, score_rule, score_at, but_last, last_of, body_at}
 use Rattle.rc_sheet.proofs.Means.{Means, nothing, something, means_if, weaker, mapped, behind, both_mean, either, ensured}
 use Rattle.rc_sheet.proofs.ReadOff.Names.{word_form, Told, told_at, least_left}
 use Rattle.rc_sheet.proofs.ReadOff.Expressions.{int_means, test_means}
 use Rattle.rc_sheet.proofs.ReadOff.Effects.{effects_mean, alts_mean}
-use Rattle.rc_grammar.specs.declared.keyword.Keyword.TheVariants as keyword
-use Rattle.rc_grammar.specs.declared.grammar.Symbol.TheVariants as symbol
-use Rattle.rc_grammar.specs.declared.grammar.Rule.{Rule}
-use Rattle.rc_grammar.specs.declared.grammar.Rule.TheVariants as rule
+use Rattle.rc_check.specs.declared.keyword.Keyword.TheVariants as keyword
+use Rattle.rc_check.specs.declared.grammar.Symbol.TheVariants as symbol
+use Rattle.rc_check.specs.declared.grammar.Rule.{Rule}
+use Rattle.rc_check.specs.declared.grammar.Rule.TheVariants as rule
 
 -- `(end BOOL)`
 abbrev pub StandsEnd : Naming → Test → Tree → Type 0

@@ -2,26 +2,26 @@
 use Rattle.std.proofs.Common.{◌≡◌, ℕ, suc, ◌+◌, true, ◌&&◌, ◌==◌, nat_le, nat_lt, List, [], ◌∷◌, length, Option, Some, None, is_none, slice_get, position, option_map, bytes_eq, refl, sym, subst, ap, ap₂, ◌∙◌, arith, ltb-true, le-leb, eqb-true}
 use Rattle.std.proofs.lemmas.Bool.{and_parts}
 use Rattle.std.proofs.lemmas.Slice.Eq.{bytes_eq-Decides}
-use Rattle.rc_model.specs.Tree.{Tree, word, list, Trees, nil, cons, count}
-use Rattle.rc_sheet_model.specs.Sheet.{Class, game_class, player_class, team_class, Sort, player_sort, card_sort, group_sort, LocKind, vloc, iloc, hloc, mem, LocName, NumName, Who, game, current_player, current_team, who_var}
-use Rattle.rc_sheet_model.specs.Rows.{◌▸◌, End, Row, Word, Atom}
-use Rattle.rc_model.specs.Limits.{most_variables}
-use Rattle.rc_sheet_model.specs.Naming.{Naming, Variable, Scope, class_of, Named, Binder, InScope}
-use Rattle.rc_model.specs.Words.{is_variable}
-use Rattle.rc_sheet_model.specs.Naming.{kind_word as kind_bytes}
-use Rattle.rc_sheet_model.specs.StandsExpressions.{StandsOwner, StandsHolder, StandsLoc, StandsNum}
-use Rattle.rc_sheet_model.specs.Sheet.{same_sort, same_class}
-use Rattle.rc_grammar.specs.Grammar.{forms_of, front_of}
-use Rattle.rc_grammar.specs.Keyword.{text_of}
-use Rattle.rc_grammar.specs.Faults.{is_form_word, fits_head, begins, second_word, is_told, told_rule, plain_rule, or_else, rule_of, fits}
-use Rattle.rc_reading.specs.ReadNames.{◌>>=◌, ensure, sized, rule_at, name_at, binder_at, has_sort, place_in, sorted, variable_in, player_of_rule, player_at, team_of, owner_rule, owner_at, holder_at, is_loc_name, is_num_name, loc_parts, loc_rule, loc_at, num_parts, num_rule, num_at, map_at, kind_keyword}
+use Rattle.rc_base.specs.Tree.{Tree, word, list, Trees, nil, cons, count}
+use Rattle.rc_sheet_spec.specs.Sheet.{Class, game_class, player_class, team_class, Sort, player_sort, card_sort, group_sort, LocKind, vloc, iloc, hloc, mem, LocName, NumName, Who, game, current_player, current_team, who_var}
+use Rattle.rc_sheet_spec.specs.Rows.{◌▸◌, End, Row, Word, Atom}
+use Rattle.rc_base.specs.Limits.{most_variables}
+use Rattle.rc_sheet_spec.specs.Naming.{Naming, Variable, Scope, class_of, Named, Binder, InScope}
+use Rattle.rc_base.specs.Words.{is_variable}
+use Rattle.rc_sheet_spec.specs.Naming.{kind_word as kind_bytes}
+use Rattle.rc_sheet_spec.specs.StandsExpressions.{StandsOwner, StandsHolder, StandsLoc, StandsNum}
+use Rattle.rc_sheet_spec.specs.Sheet.{same_sort, same_class}
+use Rattle.rc_check.specs.Grammar.{forms_of, front_of}
+use Rattle.rc_check.specs.Keyword.{text_of}
+use Rattle.rc_check.specs.Faults.{is_form_word, fits_head, begins, second_word, is_told, told_rule, plain_rule, or_else, rule_of, fits}
+use Rattle.rc_sheet.specs.ReadNames.{◌>>=◌, ensure, sized, rule_at, name_at, binder_at, has_sort, place_in, sorted, variable_in, player_of_rule, player_at, team_of, owner_rule, owner_at, holder_at, is_loc_name, is_num_name, loc_parts, loc_rule, loc_at, num_parts, num_rule, num_at, map_at, kind_keyword}
 use Rattle.rc_sheet.proofs.Means.{Means, nothing, something, weaker, mapped, behind, either, ensured, found_passes, place_passes}
-use Rattle.rc_grammar.specs.declared.keyword.Keyword.{Keyword}
-use Rattle.rc_grammar.specs.declared.keyword.Keyword.TheVariants as keyword
-use Rattle.rc_grammar.specs.declared.grammar.Symbol.{Symbol}
-use Rattle.rc_grammar.specs.declared.grammar.Symbol.TheVariants as symbol
-use Rattle.rc_grammar.specs.declared.grammar.Rule.{Rule}
-use Rattle.rc_grammar.specs.declared.grammar.Rule.TheVariants as rule
+use Rattle.rc_check.specs.declared.keyword.Keyword.{Keyword}
+use Rattle.rc_check.specs.declared.keyword.Keyword.TheVariants as keyword
+use Rattle.rc_check.specs.declared.grammar.Symbol.{Symbol}
+use Rattle.rc_check.specs.declared.grammar.Symbol.TheVariants as symbol
+use Rattle.rc_check.specs.declared.grammar.Rule.{Rule}
+use Rattle.rc_check.specs.declared.grammar.Rule.TheVariants as rule
 
 -- equal bytes
 pub same_bytes : (xs ys : List ℕ) → bytes_eq xs ys ≡ true → xs ≡ ys

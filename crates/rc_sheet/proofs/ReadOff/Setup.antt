@@ -4,28 +4,28 @@ use Rattle.std.proofs.Common.{◌≡◌, ℕ, ◌+◌, Bool, true, false, cond, 
 use Rattle.std.specs.Prelude.{codes}
 use Rattle.std.specs.List.{AllZip, zip, range_with_len}
 use Rattle.std.proofs.lemmas.List.{append-nil}
-use Rattle.rc_model.specs.Tree.{Tree, word, list, Trees, nil, cons, count}
-use Rattle.rc_model.specs.Literal.{integer}
-use Rattle.rc_sheet_model.specs.Sheet.{Teams, Sheet, game_class, Who, game}
-use Rattle.rc_model.specs.Limits.{most_players}
+use Rattle.rc_base.specs.Tree.{Tree, word, list, Trees, nil, cons, count}
+use Rattle.rc_base.specs.Literal.{integer}
+use Rattle.rc_sheet_spec.specs.Sheet.{Teams, Sheet, game_class, Who, game}
+use Rattle.rc_base.specs.Limits.{most_players}
 use Rattle.rc_deck.proofs.EachLemmas.{zip_push}
-use Rattle.rc_sheet_model.specs.Rows.{◌▸◌, End, Row, Word, Atom}
-use Rattle.rc_sheet_model.specs.Rows.{Some as Full}
-use Rattle.rc_sheet_model.specs.Naming.{Naming, class_of, Named, Literal, KindOf, loc_class}
-use Rattle.rc_sheet_model.specs.StandsExpressions.{StandsHolder}
-use Rattle.rc_sheet_model.specs.StandsSetup.{StandsPlayers, StandsTeam, StandTeams, StandsTeams, StandsGroups, StandsDeck, StandEntries, StandsMap, begins_with, lines_with, are_lines, team_lines, numbered, StandsSetup}
-use Rattle.rc_grammar.specs.Keyword.{text_of}
-use Rattle.rc_setup.specs.Reading.{read_deck, read_entries}
-use Rattle.rc_reading.specs.ReadNames.{ensure, rule_at, name_at, loc_at}
-use Rattle.rc_reading.specs.ReadSetup.{Setup, Lines, no_line, within, count_at, members_at, team_rule, team_at, teams_at, face_words, home_of, deck_at, points_at, players_line, teams_line, deck_line, points_line, line_rule, line_at, lines_at, setup_of, setup_at, setup_in}
+use Rattle.rc_sheet_spec.specs.Rows.{◌▸◌, End, Row, Word, Atom}
+use Rattle.rc_sheet_spec.specs.Rows.{Some as Full}
+use Rattle.rc_sheet_spec.specs.Naming.{Naming, class_of, Named, Literal, KindOf, loc_class}
+use Rattle.rc_sheet_spec.specs.StandsExpressions.{StandsHolder}
+use Rattle.rc_sheet_spec.specs.StandsSetup.{StandsPlayers, StandsTeam, StandTeams, StandsTeams, StandsGroups, StandsDeck, StandEntries, StandsMap, begins_with, lines_with, are_lines, team_lines, numbered, StandsSetup}
+use Rattle.rc_check.specs.Keyword.{text_of}
+use Rattle.rc_resolve.specs.Reading.{read_deck, read_entries}
+use Rattle.rc_sheet.specs.ReadNames.{ensure, rule_at, name_at, loc_at}
+use Rattle.rc_sheet.specs.ReadSetup.{Setup, Lines, no_line, within, count_at, members_at, team_rule, team_at, teams_at, face_words, home_of, deck_at, points_at, players_line, teams_line, deck_line, points_line, line_rule, line_at, lines_at, setup_of, setup_at, setup_in}
 use Rattle.rc_sheet.proofs.Means.{Means, nothing, something, means_if, weaker, behind, either, ensured, paired}
 use Rattle.rc_sheet.proofs.ReadOff.Names.{Told, told_at, name_means, loc_means}
 use Rattle.rc_sheet.proofs.ReadOff.Faces.{some_part, deck_tree_means, entries_mean}
-use Rattle.rc_grammar.specs.declared.keyword.Keyword.{Keyword}
-use Rattle.rc_grammar.specs.declared.keyword.Keyword.TheVariants as keyword
-use Rattle.rc_grammar.specs.declared.grammar.Symbol.TheVariants as symbol
-use Rattle.rc_grammar.specs.declared.grammar.Rule.{Rule}
-use Rattle.rc_grammar.specs.declared.grammar.Rule.TheVariants as rule
+use Rattle.rc_check.specs.declared.keyword.Keyword.{Keyword}
+use Rattle.rc_check.specs.declared.keyword.Keyword.TheVariants as keyword
+use Rattle.rc_check.specs.declared.grammar.Symbol.TheVariants as symbol
+use Rattle.rc_check.specs.declared.grammar.Rule.{Rule}
+use Rattle.rc_check.specs.declared.grammar.Rule.TheVariants as rule
 
 -- a number in a range
 within_means : (least most : ℕ) (found : Option ℤ) (z : ℤ) → found ≡ Some z

@@ -1,23 +1,23 @@
 -- What is read stands for its form: a whole sheet.
 use Rattle.std.proofs.Common.{◌≡◌, refl}
-use Rattle.rc_model.specs.Tree.{Tree, word, list, Trees, cons}
-use Rattle.rc_sheet_model.specs.Sheet.{Sheet}
-use Rattle.rc_sheet_model.specs.Rows.{◌▸◌, Row, Atom}
-use Rattle.rc_sheet_model.specs.Rows.{Some as Full}
-use Rattle.rc_sheet_model.specs.Naming.{Naming}
-use Rattle.rc_sheet_model.specs.StandsSetup.{StandsSetup}
-use Rattle.rc_sheet_model.specs.Stands.{Stands}
-use Rattle.rc_reading.specs.ReadNames.{rule_at}
-use Rattle.rc_reading.specs.ReadSetup.{setup_at, setup_in}
-use Rattle.rc_reading.specs.ReadItems.{body_at}
-use Rattle.rc_reading.specs.ReadSheet.{setup_rule, setup_form_at, game_parts, game_rule, sheet_at, sheet_with}
+use Rattle.rc_base.specs.Tree.{Tree, word, list, Trees, cons}
+use Rattle.rc_sheet_spec.specs.Sheet.{Sheet}
+use Rattle.rc_sheet_spec.specs.Rows.{◌▸◌, Row, Atom}
+use Rattle.rc_sheet_spec.specs.Rows.{Some as Full}
+use Rattle.rc_sheet_spec.specs.Naming.{Naming}
+use Rattle.rc_sheet_spec.specs.StandsSetup.{StandsSetup}
+use Rattle.rc_sheet_spec.specs.Stands.{Stands}
+use Rattle.rc_sheet.specs.ReadNames.{rule_at}
+use Rattle.rc_sheet.specs.ReadSetup.{setup_at, setup_in}
+use Rattle.rc_sheet.specs.ReadItems.{body_at}
+use Rattle.rc_sheet.specs.ReadSheet.{setup_rule, setup_form_at, game_parts, game_rule, sheet_at, sheet_with}
 use Rattle.rc_sheet.proofs.Means.{Means, nothing, something, weaker, behind}
 use Rattle.rc_sheet.proofs.ReadOff.Names.{Told, told_at}
 use Rattle.rc_sheet.proofs.ReadOff.Items.{body_means}
 use Rattle.rc_sheet.proofs.ReadOff.Setup.{setup_means}
-use Rattle.rc_grammar.specs.declared.grammar.Symbol.TheVariants as symbol
-use Rattle.rc_grammar.specs.declared.grammar.Rule.{Rule}
-use Rattle.rc_grammar.specs.declared.grammar.Rule.TheVariants as rule
+use Rattle.rc_check.specs.declared.grammar.Symbol.TheVariants as symbol
+use Rattle.rc_check.specs.declared.grammar.Rule.{Rule}
+use Rattle.rc_check.specs.declared.grammar.Rule.TheVariants as rule
 
 -- `(setup LINE+)`, by its rule
 setup_rule_means : (naming : Naming) (from to : _) (rule : Rule) (parts : Trees) → Told rule parts

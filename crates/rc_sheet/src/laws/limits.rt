@@ -1,19 +1,19 @@
 //! Laws of the limits and the words of a sheet that is read off a form without a fault. No function here does anything.
 ghost use Rattle.std.specs.Prelude.{◌≡◌, ◌≤◌, [], Some};
-ghost use Rattle.rc_model.specs.Tree.{Tree, IsOpenAtMost};
-ghost use Rattle.rc_sheet_model.specs.Sheet.{Sheet};
-ghost use Rattle.rc_model.specs.Limits.{most_open, most_stages, most_sites};
-ghost use Rattle.rc_sheet_model.specs.Naming.{Naming};
-ghost use Rattle.rc_sheet_model.specs.WellFormed.{team_count as team_count_of, HasWords, IsWithinLimits, IsShallow};
-ghost use Rattle.rc_grammar.specs.Faults.{faults};
-ghost use Rattle.rc_grammar.specs.declared.grammar.Symbol.TheVariants as symbol;
-ghost use Rattle.rc_faults.specs.SecondFaults.{second_faults, stage_count, choice_count};
-ghost use Rattle.rc_naming.specs.Naming.{naming_of};
-ghost use Rattle.rc_faults.specs.SecondParts.{parts_of};
-ghost use Rattle.rc_faults.specs.SecondNames.{player_count, team_count};
+ghost use Rattle.rc_base.specs.Tree.{Tree, IsOpenAtMost};
+ghost use Rattle.rc_sheet_spec.specs.Sheet.{Sheet};
+ghost use Rattle.rc_base.specs.Limits.{most_open, most_stages, most_sites};
+ghost use Rattle.rc_sheet_spec.specs.Naming.{Naming};
+ghost use Rattle.rc_sheet_spec.specs.WellFormed.{team_count as team_count_of, HasWords, IsWithinLimits, IsShallow};
+ghost use Rattle.rc_check.specs.Faults.{faults};
+ghost use Rattle.rc_check.specs.declared.grammar.Symbol.TheVariants as symbol;
+ghost use Rattle.rc_check.specs.SecondFaults.{second_faults, stage_count, choice_count};
+ghost use Rattle.rc_resolve.specs.Naming.{naming_of};
+ghost use Rattle.rc_check.specs.SecondParts.{parts_of};
+ghost use Rattle.rc_check.specs.SecondNames.{player_count, team_count};
 ghost use Rattle.rc_form.specs.Form.{IsPrintable};
 ghost use Rattle.rc_form.specs.SameForm.{IsOfAtoms};
-ghost use Rattle.rc_reading.specs.ReadSheet.{sheet_at};
+ghost use Rattle.rc_sheet.specs.ReadSheet.{sheet_at};
 
 /// A sheet that is read is shallow where its form is, so where its form may be printed.
 pub fn sheet_is_shallow()

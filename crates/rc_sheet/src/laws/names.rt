@@ -1,21 +1,21 @@
 //! Laws of the names of a form and of its sheet: how few a form without a fault mentions, and that its sheet mentions
 //! the same in the same order, so that names are numbered by their first mention. No function here does anything.
 ghost use Rattle.std.specs.Prelude.{◌≡◌, ◌≤◌, [], length, Some};
-ghost use Rattle.rc_model.specs.Tree.{Tree};
-ghost use Rattle.rc_sheet_model.specs.FormMentions.{names_of};
-ghost use Rattle.rc_model.specs.Limits.{most_attrs, most_values, most_maps, most_locations, most_numbers};
-ghost use Rattle.rc_grammar.specs.Faults.{faults};
-ghost use Rattle.rc_grammar.specs.declared.grammar.Symbol.TheVariants as symbol;
-ghost use Rattle.rc_faults.specs.SecondParts.{parts_of};
-ghost use Rattle.rc_faults.specs.SecondNames.{player_count, team_count};
-ghost use Rattle.rc_faults.specs.SecondFaults.{second_faults};
-ghost use Rattle.rc_sheet_model.specs.Sheet.{Sheet};
-ghost use Rattle.rc_sheet_model.specs.Mentions.{attr_of, value_of, map_of, loc_of, num_of, var_of};
-ghost use Rattle.rc_sheet_model.specs.FormMentions as form;
-ghost use Rattle.rc_sheet_model.specs.Numbering.{mentioned, IsNumbered};
-ghost use Rattle.rc_sheet_model.specs.Stands.{Stands};
-ghost use Rattle.rc_naming.specs.Naming.{naming_of};
-ghost use Rattle.rc_reading.specs.ReadSheet as reading;
+ghost use Rattle.rc_base.specs.Tree.{Tree};
+ghost use Rattle.rc_sheet_spec.specs.FormMentions.{names_of};
+ghost use Rattle.rc_base.specs.Limits.{most_attrs, most_values, most_maps, most_locations, most_numbers};
+ghost use Rattle.rc_check.specs.Faults.{faults};
+ghost use Rattle.rc_check.specs.declared.grammar.Symbol.TheVariants as symbol;
+ghost use Rattle.rc_check.specs.SecondParts.{parts_of};
+ghost use Rattle.rc_check.specs.SecondNames.{player_count, team_count};
+ghost use Rattle.rc_check.specs.SecondFaults.{second_faults};
+ghost use Rattle.rc_sheet_spec.specs.Sheet.{Sheet};
+ghost use Rattle.rc_sheet_spec.specs.Mentions.{attr_of, value_of, map_of, loc_of, num_of, var_of};
+ghost use Rattle.rc_sheet_spec.specs.FormMentions as form;
+ghost use Rattle.rc_sheet_spec.specs.Numbering.{mentioned, IsNumbered};
+ghost use Rattle.rc_sheet_spec.specs.Stands.{Stands};
+ghost use Rattle.rc_resolve.specs.Naming.{naming_of};
+ghost use Rattle.rc_sheet.specs.ReadSheet as reading;
 
 /// A form without a fault mentions few names of each kind; of locations and of stored numbers, where it has a player
 /// and a team.

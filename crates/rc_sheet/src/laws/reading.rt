@@ -1,20 +1,20 @@
 //! Laws of reading: what is read off a form stands for it. No function here does anything.
 ghost use Rattle.std.specs.Prelude.{◌≡◌, ℕ, List, Some};
-ghost use Rattle.rc_model.specs.Tree.{Tree, word, list, Trees};
-ghost use Rattle.rc_sheet_model.specs.Sheet as sheet;
-ghost use Rattle.rc_sheet_model.specs.Rows.{◌▸◌, End, AtLeast, Row, Atom, Some as Full};
-ghost use Rattle.rc_sheet_model.specs.Naming.{Naming, Scope, Named, Binder, InScope, self_scope};
-ghost use Rattle.rc_sheet_model.specs.StandsExpressions as expressions;
-ghost use Rattle.rc_sheet_model.specs.StandsEffects as effects;
-ghost use Rattle.rc_sheet_model.specs.StandsItems as items;
-ghost use Rattle.rc_sheet_model.specs.Stands.{Stands, StandsBest};
-ghost use Rattle.rc_sheet_model.specs.StandsSetup.{StandsSetup};
-ghost use Rattle.rc_reading.specs.ReadSetup as setup_reading;
-ghost use Rattle.rc_reading.specs.ReadSheet as sheet_reading;
-ghost use Rattle.rc_reading.specs.ReadNames as names;
-ghost use Rattle.rc_reading.specs.ReadExpressions as reading;
-ghost use Rattle.rc_reading.specs.ReadEffects as effect_reading;
-ghost use Rattle.rc_reading.specs.ReadItems as item_reading;
+ghost use Rattle.rc_base.specs.Tree.{Tree, word, list, Trees};
+ghost use Rattle.rc_sheet_spec.specs.Sheet as sheet;
+ghost use Rattle.rc_sheet_spec.specs.Rows.{◌▸◌, End, AtLeast, Row, Atom, Some as Full};
+ghost use Rattle.rc_sheet_spec.specs.Naming.{Naming, Scope, Named, Binder, InScope, self_scope};
+ghost use Rattle.rc_sheet_spec.specs.StandsExpressions as expressions;
+ghost use Rattle.rc_sheet_spec.specs.StandsEffects as effects;
+ghost use Rattle.rc_sheet_spec.specs.StandsItems as items;
+ghost use Rattle.rc_sheet_spec.specs.Stands.{Stands, StandsBest};
+ghost use Rattle.rc_sheet_spec.specs.StandsSetup.{StandsSetup};
+ghost use Rattle.rc_sheet.specs.ReadSetup as setup_reading;
+ghost use Rattle.rc_sheet.specs.ReadSheet as sheet_reading;
+ghost use Rattle.rc_sheet.specs.ReadNames as names;
+ghost use Rattle.rc_sheet.specs.ReadExpressions as reading;
+ghost use Rattle.rc_sheet.specs.ReadEffects as effect_reading;
+ghost use Rattle.rc_sheet.specs.ReadItems as item_reading;
 
 /// Names, variables, owners, holders, locations and stored numbers that are read stand for their forms.
 pub fn names_stand()

@@ -1,20 +1,20 @@
 //! Laws of the players, the teams, the decks and the points of a form without a fault, and of those that its sheet has.
 //! No function here does anything.
 ghost use Rattle.std.specs.Prelude.{◌≡◌, ◌≤◌, ℕ, true, List, [], ◌∷◌, ◌++◌, length, flat_map, position, sum_by, bytes_eq, All, Some};
-ghost use Rattle.rc_model.specs.Tree.{Tree, list, Trees, cons};
-ghost use Rattle.rc_model.specs.Deck.{face_count};
-ghost use Rattle.rc_grammar.specs.Faults.{faults};
-ghost use Rattle.rc_grammar.specs.declared.grammar.Symbol.TheVariants as symbol;
-ghost use Rattle.rc_faults.specs.SecondParts.{parts_of, Standing, Part, form, word_in};
-ghost use Rattle.rc_faults.specs.SecondNames.{player_count, team_count, is_named, attributes_in, values_in, maps_in};
-ghost use Rattle.rc_faults.specs.SecondFaults.{second_faults};
-ghost use Rattle.rc_sheet_model.specs.Sheet.{SheetItems, Best, IntExpr, Sheet};
-ghost use Rattle.rc_sheet_model.specs.WellFormed.{IsAttr, IsValue, IsMap, AreTeams, IsDeck, IsEntry};
-ghost use Rattle.rc_grammar.specs.declared.grammar.Rule.TheVariants as rule;
-ghost use Rattle.rc_naming.specs.Naming.{naming_of};
-ghost use Rattle.rc_reading.specs.ReadSetup.{Setup};
-ghost use Rattle.rc_reading.specs.ReadSheet.{setup_form_at, sheet_with, sheet_at};
-ghost use Rattle.rc_model.specs.Limits.{most_cards};
+ghost use Rattle.rc_base.specs.Tree.{Tree, list, Trees, cons};
+ghost use Rattle.rc_base.specs.Deck.{face_count};
+ghost use Rattle.rc_check.specs.Faults.{faults};
+ghost use Rattle.rc_check.specs.declared.grammar.Symbol.TheVariants as symbol;
+ghost use Rattle.rc_check.specs.SecondParts.{parts_of, Standing, Part, form, word_in};
+ghost use Rattle.rc_check.specs.SecondNames.{player_count, team_count, is_named, attributes_in, values_in, maps_in};
+ghost use Rattle.rc_check.specs.SecondFaults.{second_faults};
+ghost use Rattle.rc_sheet_spec.specs.Sheet.{SheetItems, Best, IntExpr, Sheet};
+ghost use Rattle.rc_sheet_spec.specs.WellFormed.{IsAttr, IsValue, IsMap, AreTeams, IsDeck, IsEntry};
+ghost use Rattle.rc_check.specs.declared.grammar.Rule.TheVariants as rule;
+ghost use Rattle.rc_resolve.specs.Naming.{naming_of};
+ghost use Rattle.rc_sheet.specs.ReadSetup.{Setup};
+ghost use Rattle.rc_sheet.specs.ReadSheet.{setup_form_at, sheet_with, sheet_at};
+ghost use Rattle.rc_base.specs.Limits.{most_cards};
 
 /// A form without a fault has a player and a team.
 pub fn someone_plays()

@@ -2,14 +2,14 @@ use Rattle.std.proofs.Common.{◌≡◌, length, ◌++◌, ◌∷◌, [], map, r
 use Rattle.std.proofs.lemmas.Grind.{common_steps}
 use Rattle.std.proofs.lemmas.List.{length-map, take-map}
 use Rattle.std.specs.List.{filter, list_all, list_any}
-use Rattle.rc_model.specs.Numbers.{below}
+use Rattle.rc_base.specs.Numbers.{below}
 use Rattle.rc_deck.proofs.RangeLemmas.{below_length}
-use Rattle.rc_play_model.specs.Value.{card_bound, player_bound, attr_of_any, cut, card_value, coll_value, colls_value, test_value}
+use Rattle.rc_play_spec.specs.Value.{card_bound, player_bound, attr_of_any, cut, card_value, coll_value, colls_value, test_value}
 use Rattle.rc_ast.specs.Names.{loc_seen}
 use Rattle.rc_ast.specs.Expressions.{test_seen, card_seen, coll_seen, colls_seen, domain_seen}
 use Rattle.rc_value.specs.Cards.{value_seen, values_seen}
 use Rattle.rc_value.specs.Scene.{scene_seen}
-use Rattle.rc_sheet_model.specs.Sheet.{all_of, any_of, each_card, card_var, cards_in, filtered, group_var}
+use Rattle.rc_sheet_spec.specs.Sheet.{all_of, any_of, each_card, card_var, cards_in, filtered, group_var}
 use Rattle.rc_value.proofs.Passing.{pass_step, pass_end}
 use Rattle.rc_value.proofs.Steps.{players_are, all_stop, all_on, all_end, any_stop, any_on, any_end, player_here, union_on, union_end, colls_here, tests_here, and_here, or_here, union_here, and_depth, or_depth, union_depth, inner_is, tests_on, tests_off, count_on, count_end}
 use Rattle.rc_ast.specs.declared.expressions.CardExpr.TheFolds

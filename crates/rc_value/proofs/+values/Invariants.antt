@@ -1,8 +1,8 @@
 use Rattle.std.proofs.Common.{◌≡◌, ◌+◌, ◌≤◌, ◌++◌, ◌∷◌, [], length, drop, min}
 use Rattle.std.specs.List.{list_all, list_any, filter}
-use Rattle.rc_model.specs.Numbers.{below}
-use Rattle.rc_play_model.specs.Scene.{CardValue}
-use Rattle.rc_play_model.specs.Value.{Bind as PureBind, card_bound, player_bound, cut, colls_value, test_value, tests_value}
+use Rattle.rc_base.specs.Numbers.{below}
+use Rattle.rc_play_spec.specs.Scene.{CardValue}
+use Rattle.rc_play_spec.specs.Value.{Bind as PureBind, card_bound, player_bound, cut, colls_value, test_value, tests_value}
 use Rattle.rc_ast.specs.Expressions.{colls_seen, test_seen, tests_seen}
 use Rattle.rc_value.specs.Cards.{values_seen}
 use Rattle.rc_value.specs.Depth.{colls_depth, tests_depth}

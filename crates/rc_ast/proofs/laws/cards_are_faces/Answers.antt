@@ -2,9 +2,9 @@ use Rattle.std.proofs.Common.{◌≡◌, List, [], ◌∷◌, length, refl, sym,
 use Rattle.std.specs.Prelude.{sum_by}
 use Rattle.std.specs.List.{AllZip}
 use Rattle.std.proofs.lemmas.List.Sums.{sum_by-cons}
-use Rattle.rc_model.specs.Deck.{Face, AreFaces, face_count}
+use Rattle.rc_base.specs.Deck.{Face, AreFaces, face_count}
 use Rattle.rc_deck.proofs.PathLaws.{length-AreFaces}
-use Rattle.rc_sheet_model.specs.Sheet.{DeckLine}
+use Rattle.rc_sheet_spec.specs.Sheet.{DeckLine}
 use Rattle.rc_ast.proofs.laws.cards_are_faces.Goals as goal
 
 pub returns-clause-deck : goal.returns-clause-deck

@@ -1,6 +1,6 @@
 use Rattle.std.proofs.Common.{sym, ap, ap₂, ◌∙◌}
-use Rattle.rc_sheet_model.specs.Sheet.{when, repeat, for_each}
-use Rattle.rc_sheet_model.specs.Lists.{effects_from}
+use Rattle.rc_sheet_spec.specs.Sheet.{when, repeat, for_each}
+use Rattle.rc_sheet_spec.specs.Lists.{effects_from}
 use Rattle.rc_ast.specs.Effects.{effect_seen}
 use Rattle.rc_ast.proofs.ViewLemmas.{if_seen, repeat_seen, each_seen}
 use Rattle.rc_code.proofs.copied_effects.+effects.Goals as goal

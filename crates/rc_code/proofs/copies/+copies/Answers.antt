@@ -1,6 +1,6 @@
 use Rattle.std.proofs.Common.{sym, ap, ◌∙◌}
-use Rattle.rc_sheet_model.specs.Sheet.{union_of, and_of, or_of}
-use Rattle.rc_sheet_model.specs.Lists.{colls_from, tests_from}
+use Rattle.rc_sheet_spec.specs.Sheet.{union_of, and_of, or_of}
+use Rattle.rc_sheet_spec.specs.Lists.{colls_from, tests_from}
 use Rattle.rc_ast.specs.Expressions.{coll_seen, test_seen}
 use Rattle.rc_ast.proofs.ViewLemmas.{union_seen, and_seen, or_seen}
 use Rattle.rc_code.proofs.copies.+copies.Goals as goal

@@ -1,5 +1,5 @@
 use Rattle.std.proofs.Common.{length, map, ap, ◌∙◌, arith}
-use Rattle.rc_play_model.specs.Menu.{effects_of}
+use Rattle.rc_play_spec.specs.Menu.{effects_of}
 use Rattle.rc_ast.specs.Items.{alt_seen}
 use Rattle.rc_code.specs.Compiled.{effects_code}
 use Rattle.rc_code.specs.Seen.{block_seen, list_seen}

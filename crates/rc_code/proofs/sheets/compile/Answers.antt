@@ -1,5 +1,5 @@
 use Rattle.std.proofs.Common.{◌++◌, length, map, ap, ap₂, ◌∙◌}
-use Rattle.rc_sheet_model.specs.Sheet.{Sheet}
+use Rattle.rc_sheet_spec.specs.Sheet.{Sheet}
 use Rattle.rc_ast.specs.Items.{items_seen}
 use Rattle.rc_code.specs.Compiled.{items_code, items_sites}
 use Rattle.rc_code.specs.Seen.{list_seen, place_seen}

@@ -1,5 +1,5 @@
 use Rattle.std.proofs.Common.{◌∷◌, Some, sym, ap, ◌∙◌}
-use Rattle.rc_play_model.specs.Strategy.{menu_size}
+use Rattle.rc_play_spec.specs.Strategy.{menu_size}
 use Rattle.rc_redraw.specs.Asking.{Key, key_seen}
 use Rattle.rc_match.specs.Lane.{ready, phase_seen}
 use Rattle.rc_core.specs.Events.{best_of}

@@ -1,6 +1,6 @@
 use Rattle.std.proofs.Common.{◌≡◌, ◌+◌, ◌*◌, min, drop, ap, ◌∙◌, sym, arith}
 use Rattle.rc_deck.specs.Tree.{branches_of, inner_of, groups_in, branches_in}
-use Rattle.rc_model.specs.Deck.{face_count, branch_count}
+use Rattle.rc_base.specs.Deck.{face_count, branch_count}
 use Rattle.rc_deck.proofs.TreeLemmas.{branches_of_out, inner_of_out, groups_in-drop, branches_in-drop}
 use Rattle.rc_deck.proofs.CapLemmas.{min-mul_cut}
 use Rattle.rc_deck.proofs.counting.+counting.Goals as goal

@@ -1,6 +1,6 @@
 use Rattle.std.proofs.Common.{◌≡◌, ◌+◌, ◌*◌, ◌≤◌, min, drop}
 use Rattle.rc_deck.specs.Tree.{groups_in, branches_in}
-use Rattle.rc_model.specs.Deck.{face_count, branch_count}
+use Rattle.rc_base.specs.Deck.{face_count, branch_count}
 use Rattle.rc_deck.proofs.counting.+counting.Given as goal
 
 abbrev pub invariant-count_branches-loop-branch : goal.invariant-count_branches-loop-branch

@@ -1,5 +1,5 @@
 use Rattle.std.proofs.Common.{◌≡◌, List, [], Vec, Global, Result, Ok, Err, IfOk, sym, ◌∙◌, subst}
-use Rattle.rc_model.specs.Deck.{Groups, Face, AreFaces}
+use Rattle.rc_base.specs.Deck.{Groups, Face, AreFaces}
 use Rattle.rc_deck.specs.declared.memory.Memory.{Memory}
 use Rattle.rc_deck.specs.Tree.{groups_of}
 use Rattle.rc_deck.specs.Product.{behind, faces_of_groups}

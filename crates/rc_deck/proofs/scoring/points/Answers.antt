@@ -1,6 +1,6 @@
 use Rattle.std.proofs.Common.{sym, subst, arith}
 use Rattle.std.proofs.lemmas.Int.{ints}
-use Rattle.rc_model.specs.Clamp.{IsWithinClamp}
+use Rattle.rc_base.specs.Clamp.{IsWithinClamp}
 use Rattle.rc_deck.proofs.PointLemmas.{sum_of_more, IsWithinClamp-added}
 use Rattle.rc_deck.proofs.scoring.points.Goals as goal
 

@@ -1,5 +1,5 @@
 use Rattle.std.proofs.Common.{ap, ◌∙◌, slice_get}
-use Rattle.rc_play_model.specs.Menu.{alts_at}
+use Rattle.rc_play_spec.specs.Menu.{alts_at}
 use Rattle.rc_code.specs.Seen.{list_seen}
 use Rattle.rc_flat.proofs.decisions.apply.Goals as goal
 

@@ -1,20 +1,20 @@
 use Rattle.std.proofs.Common.{◌+◌, ◌<◌, ◌≤◌, [], All, drop, map, ap, sym, ◌∙◌, subst, arith}
-use Rattle.rc_play_model.specs.About.{scene_at}
-use Rattle.rc_play_model.specs.Menu.{Item, alt_in, effects_of, bindings_of}
-use Rattle.rc_play_model.specs.Effects.{does}
-use Rattle.rc_play_model.specs.Step.{goes}
+use Rattle.rc_play_spec.specs.About.{scene_at}
+use Rattle.rc_play_spec.specs.Menu.{Item, alt_in, effects_of, bindings_of}
+use Rattle.rc_play_spec.specs.Effects.{does}
+use Rattle.rc_play_spec.specs.Step.{goes}
 use Rattle.rc_rules.specs.Control.{control_seen}
 use Rattle.rc_value.specs.Current.{IsCurrent}
 use Rattle.rc_code.specs.Seen.{block_seen, list_seen}
-use Rattle.rc_play_model.specs.Control.{Control}
-use Rattle.rc_play_model.proofs.CountLemmas.{one_decision_counts}
-use Rattle.rc_stand.specs.Places.{went_to, IsPlace}
-use Rattle.rc_stand.proofs.PlaceLemmas.{goes_on_behind, went_place}
-use Rattle.rc_stand.proofs.KeptLemmas.{so_many, item_kept, stands_here}
-use Rattle.rc_state.specs.Point.{point_of}
-use Rattle.rc_stand.specs.Flat.{config_of}
-use Rattle.rc_stand.specs.State.{flat_of}
-use Rattle.rc_stand.proofs.StepCases.{moved, choose_leads}
+use Rattle.rc_play_spec.specs.Control.{Control}
+use Rattle.rc_play_spec.proofs.CountLemmas.{one_decision_counts}
+use Rattle.rc_flat.specs.Places.{went_to, IsPlace}
+use Rattle.rc_flat.proofs.PlaceLemmas.{goes_on_behind, went_place}
+use Rattle.rc_flat.proofs.KeptLemmas.{so_many, item_kept, stands_here}
+use Rattle.rc_value.specs.Point.{point_of}
+use Rattle.rc_flat.specs.Flat.{config_of}
+use Rattle.rc_flat.specs.State.{flat_of}
+use Rattle.rc_flat.proofs.StepCases.{moved, choose_leads}
 use Rattle.rc_flat.proofs.decisions.take_item.Goals as goal
 
 pub item_at-item-requires : goal.item_at-item-requires

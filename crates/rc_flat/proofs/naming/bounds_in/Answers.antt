@@ -1,6 +1,6 @@
 use Rattle.std.proofs.Common.{◌≡◌, ◌<◌, rules, length, slice_index_or, sym, subst}
-use Rattle.rc_sheet_model.specs.WellFormed.{IsAlt}
-use Rattle.rc_play_model.proofs.SiteLemmas.{alt_among}
+use Rattle.rc_sheet_spec.specs.WellFormed.{IsAlt}
+use Rattle.rc_play_spec.proofs.SiteLemmas.{alt_among}
 use Rattle.rc_flat.proofs.naming.bounds_in.Goals as goal
 
 pub item_bounds-requires-clause-well : goal.item_bounds-requires-clause-well

@@ -1,11 +1,11 @@
 use Rattle.std.proofs.Common.{◌<◌, [], map, ap, sym, ◌∙◌, subst, slice_get}
-use Rattle.rc_play_model.specs.About.{scene_at}
-use Rattle.rc_play_model.specs.ItemBounds.{bound_of}
-use Rattle.rc_play_model.specs.Menu.{alt_in, alts_at, bindings_of}
+use Rattle.rc_play_spec.specs.About.{scene_at}
+use Rattle.rc_play_spec.specs.ItemBounds.{bound_of}
+use Rattle.rc_play_spec.specs.Menu.{alt_in, alts_at, bindings_of}
 use Rattle.rc_table.specs.Laid.{Laid}
 use Rattle.rc_rules.specs.Control.{frames_seen}
 use Rattle.rc_code.specs.Seen.{block_seen, list_seen}
-use Rattle.rc_stand.proofs.KeptLemmas.{so_many}
+use Rattle.rc_flat.proofs.KeptLemmas.{so_many}
 use Rattle.rc_flat.proofs.NamingLemmas.{bounds_kept}
 use Rattle.rc_flat.proofs.naming.bounds_of.Goals as goal
 

@@ -1,20 +1,20 @@
 use Rattle.std.proofs.Common.{◌+◌, length, drop, Some, ap, sym, ◌∙◌, subst, arith}
 use Rattle.std.proofs.lemmas.Bool.{eqb-true, eqb-false}
 use Rattle.std.proofs.lemmas.List.{length-map}
-use Rattle.rc_play_model.specs.Menu.{menu_from}
-use Rattle.rc_play_model.specs.About.{scene_at, menu_at}
-use Rattle.rc_play_model.specs.Step.{goes}
+use Rattle.rc_play_spec.specs.Menu.{menu_from}
+use Rattle.rc_play_spec.specs.About.{scene_at, menu_at}
+use Rattle.rc_play_spec.specs.Step.{goes}
 use Rattle.rc_table.specs.Laid.{Laid}
 use Rattle.rc_rules.specs.Menu.{item_seen}
 use Rattle.rc_code.specs.Instruction.{offer}
 use Rattle.rc_code.specs.Seen.{list_seen}
-use Rattle.rc_stand.specs.Flat.{config_of}
-use Rattle.rc_stand.specs.State.{flat_of}
-use Rattle.rc_stand.proofs.StepCases.{moved, skip_leads}
-use Rattle.rc_stand.specs.Places.{IsPlace}
-use Rattle.rc_stand.proofs.PlayLemmas.{still}
-use Rattle.rc_stand.proofs.PlaceLemmas.{goes_on, went_place}
-use Rattle.rc_stand.proofs.OfferedLemmas.{one_site}
+use Rattle.rc_flat.specs.Flat.{config_of}
+use Rattle.rc_flat.specs.State.{flat_of}
+use Rattle.rc_flat.proofs.StepCases.{moved, skip_leads}
+use Rattle.rc_flat.specs.Places.{IsPlace}
+use Rattle.rc_flat.proofs.PlayLemmas.{still}
+use Rattle.rc_flat.proofs.PlaceLemmas.{goes_on, went_place}
+use Rattle.rc_flat.proofs.OfferedLemmas.{one_site}
 use Rattle.rc_flat.proofs.steps.choice_next.Goals as goal
 
 pub returns-then-is_empty-clause-leads : goal.returns-then-is_empty-clause-leads

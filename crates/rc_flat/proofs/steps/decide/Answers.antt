@@ -1,8 +1,8 @@
 use Rattle.std.proofs.Common.{◌<◌, ◌≤◌, subst}
-use Rattle.rc_play_model.specs.Menu.{alts_at}
+use Rattle.rc_play_spec.specs.Menu.{alts_at}
 use Rattle.rc_code.specs.Seen.{list_seen}
-use Rattle.rc_stand.specs.State.{flat_of}
-use Rattle.rc_stand.proofs.StepCases.{full_leads, decide_leads}
+use Rattle.rc_flat.specs.State.{flat_of}
+use Rattle.rc_flat.proofs.StepCases.{full_leads, decide_leads}
 use Rattle.rc_flat.proofs.steps.decide.Goals as goal
 
 pub returns-then-state-turns-clause-leads : goal.returns-then-state-turns-clause-leads

@@ -1,15 +1,15 @@
 use Rattle.std.proofs.Common.{◌+◌, [], take, drop, ap, sym, ◌∙◌, subst}
-use Rattle.rc_play_model.specs.Effects.{does}
-use Rattle.rc_play_model.specs.Step.{goes, with_frames}
+use Rattle.rc_play_spec.specs.Effects.{does}
+use Rattle.rc_play_spec.specs.Step.{goes, with_frames}
 use Rattle.rc_code.specs.Meaning.{effects_in}
 use Rattle.rc_code.specs.Seen.{list_seen}
-use Rattle.rc_state.specs.Point.{point_of}
-use Rattle.rc_stand.specs.Flat.{config_of}
-use Rattle.rc_stand.specs.State.{flat_of}
-use Rattle.rc_stand.specs.Places.{IsPlace}
+use Rattle.rc_value.specs.Point.{point_of}
+use Rattle.rc_flat.specs.Flat.{config_of}
+use Rattle.rc_flat.specs.State.{flat_of}
+use Rattle.rc_flat.specs.Places.{IsPlace}
 use Rattle.rc_rules.specs.Control.{frames_seen}
-use Rattle.rc_stand.proofs.StepCases.{moved, do_leads}
-use Rattle.rc_stand.proofs.PlaceLemmas.{goes_on, went_place}
+use Rattle.rc_flat.proofs.StepCases.{moved, do_leads}
+use Rattle.rc_flat.proofs.PlaceLemmas.{goes_on, went_place}
 use Rattle.rc_flat.proofs.steps.do_next.Goals as goal
 
 pub returns-clause-leads : goal.returns-clause-leads

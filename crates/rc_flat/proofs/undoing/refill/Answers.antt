@@ -1,9 +1,9 @@
 use Rattle.std.proofs.Common.{List, [], Option, Some, ap, sym, ◌∙◌, slice_get}
-use Rattle.rc_sheet_model.specs.Sheet.{Alt}
-use Rattle.rc_play_model.specs.Menu.{alts_at}
+use Rattle.rc_sheet_spec.specs.Sheet.{Alt}
+use Rattle.rc_play_spec.specs.Menu.{alts_at}
 use Rattle.rc_code.specs.Instruction.{Instruction, offer}
 use Rattle.std.specs.Prelude.{unwrap_or}
-use Rattle.rc_play_model.specs.About.{menu_at}
+use Rattle.rc_play_spec.specs.About.{menu_at}
 use Rattle.rc_table.specs.Laid.{Laid}
 use Rattle.rc_rules.specs.Control.{control_seen}
 use Rattle.rc_code.specs.Seen.{list_seen}

@@ -1,6 +1,6 @@
 use Rattle.std.proofs.Common.{map, drop, refl, ap, ◌+◌, ◌∙◌, arith}
 use Rattle.std.proofs.lemmas.Grind.{common_steps}
-use Rattle.rc_sheet_model.specs.Sight.{locs_in_item, locs_in_items}
+use Rattle.rc_sheet_spec.specs.Sight.{locs_in_item, locs_in_items}
 use Rattle.rc_ast.specs.Names.{loc_name_seen}
 use Rattle.rc_ast.specs.Items.{item_seen, items_seen}
 use Rattle.rc_flow.specs.Least.{least_with}

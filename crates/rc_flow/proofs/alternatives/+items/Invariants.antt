@@ -1,5 +1,5 @@
 use Rattle.std.proofs.Common.{◌≡◌, map, drop}
-use Rattle.rc_sheet_model.specs.Sight.{locs_in_items}
+use Rattle.rc_sheet_spec.specs.Sight.{locs_in_items}
 use Rattle.rc_ast.specs.Names.{loc_name_seen}
 use Rattle.rc_ast.specs.Items.{items_seen}
 use Rattle.rc_flow.specs.Least.{least_with}

@@ -1,5 +1,5 @@
 use Rattle.std.proofs.Common.{map, flat_map, drop, refl, ap, ◌+◌, ◌∙◌}
-use Rattle.rc_sheet_model.specs.Sight.{locs_in_alt}
+use Rattle.rc_sheet_spec.specs.Sight.{locs_in_alt}
 use Rattle.rc_ast.specs.Names.{loc_name_seen}
 use Rattle.rc_ast.specs.Items.{alt_seen, alts_seen}
 use Rattle.rc_flow.specs.Least.{least_with}

@@ -1,6 +1,6 @@
 use Rattle.std.proofs.Common.{map, drop, refl, ap, ◌+◌, ◌∙◌, arith}
 use Rattle.std.proofs.lemmas.Grind.{common_steps}
-use Rattle.rc_sheet_model.specs.Sight.{locs_in_coll, locs_in_colls, locs_in_test, locs_in_tests}
+use Rattle.rc_sheet_spec.specs.Sight.{locs_in_coll, locs_in_colls, locs_in_test, locs_in_tests}
 use Rattle.rc_ast.specs.Names.{loc_name_seen}
 use Rattle.rc_ast.specs.Expressions.{coll_seen, colls_seen, test_seen, tests_seen}
 use Rattle.rc_flow.specs.Least.{least_with}

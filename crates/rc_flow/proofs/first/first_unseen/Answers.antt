@@ -1,6 +1,6 @@
 use Rattle.std.proofs.Common.{◌≡◌, ℕ, Option, Some, None, IfSome, IfNone, sym}
-use Rattle.rc_sheet_model.specs.Sheet.{Sheet}
-use Rattle.rc_sheet_model.specs.Sight.{locs_in_items, IsInSight, IsUnseen}
+use Rattle.rc_sheet_spec.specs.Sheet.{Sheet}
+use Rattle.rc_sheet_spec.specs.Sight.{locs_in_items, IsInSight, IsUnseen}
 use Rattle.rc_ast.specs.Sheet.{sheet_seen}
 use Rattle.rc_flow.specs.Least.{least_with}
 use Rattle.rc_flow.proofs.FirstOffset.{none_out_of_sight, first_out_of_sight}

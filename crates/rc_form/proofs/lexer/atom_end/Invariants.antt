@@ -1,5 +1,5 @@
 use Rattle.std.proofs.Common.{length, ◌-◌, ◌+◌, ◌≡◌, ◌≤◌, drop}
-use Rattle.rc_model.specs.Token.{atom_front}
+use Rattle.rc_base.specs.Token.{atom_front}
 use Rattle.rc_form.proofs.lexer.atom_end.Given as goal
 
 abbrev pub invariant-loop-at : goal.invariant-loop-at

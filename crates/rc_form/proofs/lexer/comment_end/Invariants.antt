@@ -1,5 +1,5 @@
 use Rattle.std.proofs.Common.{length, ◌-◌, ◌≡◌, ◌≤◌, drop}
-use Rattle.rc_model.specs.Token.{tokens_from, in_comment}
+use Rattle.rc_base.specs.Token.{tokens_from, in_comment}
 use Rattle.rc_form.proofs.lexer.comment_end.Given as goal
 
 abbrev pub invariant-loop-at : goal.invariant-loop-at

@@ -1,5 +1,5 @@
 use Rattle.std.proofs.Common.{◌≡◌, ◌<◌, ◌^◌, take}
-use Rattle.rc_model.specs.Literal as literal
+use Rattle.rc_base.specs.Literal as literal
 use Rattle.rc_form.proofs.literal.value_of.Given as goal
 
 abbrev pub invariant-loop-digit : goal.invariant-loop-digit

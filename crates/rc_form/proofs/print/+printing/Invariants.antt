@@ -1,5 +1,5 @@
 use Rattle.std.proofs.Common.{◌≡◌, ◌++◌, drop}
-use Rattle.rc_model.specs.Tree.{printed_behind}
+use Rattle.rc_base.specs.Tree.{printed_behind}
 use Rattle.rc_form.specs.Form.{trees_of, packed}
 use Rattle.rc_form.specs.SameForm.{AreOfAtoms}
 use Rattle.rc_form.proofs.print.+printing.Given as goal

@@ -1,5 +1,5 @@
 use Rattle.std.proofs.Common.{◌≡◌, sym, subst, rules}
-use Rattle.rc_model.specs.Tree.{printed}
+use Rattle.rc_base.specs.Tree.{printed}
 use Rattle.rc_form.specs.Form.{tree_of}
 use Rattle.rc_form.specs.SameForm.{SpellsAgain}
 use Rattle.rc_form.proofs.PrintedIsSpelled.{SpellsAgain-printed}

@@ -1,9 +1,9 @@
 use Rattle.std.proofs.Common.{◌≡◌, ℕ, List, [], length, Result, Ok, Err}
 use Rattle.std.specs.Result.{IfOk, IfErr}
 use Rattle.std.specs.List.{All, flat_map}
-use Rattle.rc_model.specs.Token.{tokens}
-use Rattle.rc_model.specs.Tree.{Tree, spelling}
-use Rattle.rc_model.specs.Spelled.{Spelled, IsTopList, next_offset}
+use Rattle.rc_base.specs.Token.{tokens}
+use Rattle.rc_base.specs.Tree.{Tree, spelling}
+use Rattle.rc_base.specs.Spelled.{Spelled, IsTopList, next_offset}
 use Rattle.rc_form.specs.Form.{tree_of, trees_of, IsPrintable}
 use Rattle.rc_form.specs.FormFault.{IsFormFault, IfFormFault}
 use Rattle.rc_form.specs.Lexer.{tokens_at}
@@ -18,7 +18,7 @@ use Rattle.rc_form.proofs.FaultLaws.{IsFirstFault-unique}
 use Rattle.rc_form.proofs.ReadIsFault.{fault-from_read, no_fault-from_read}
 use Rattle.rc_form.specs.SameForm.{IsOfAtoms}
 use Rattle.rc_form.proofs.AtomsAreRead.{All-of_atoms-spelled}
-use Rattle.rc_model.specs.Placed.{IsPlaced}
+use Rattle.rc_base.specs.Placed.{IsPlaced}
 use Rattle.rc_form.proofs.Placed.{All-placed}
 use Rattle.rc_form.proofs.TopLists.{All-top, All-printable}
 use Rattle.rc_form.proofs.reading.read_forms.Goals as goal

@@ -1,6 +1,6 @@
 use Rattle.std.proofs.Common.{◌≡◌, ◌≤◌, [], length, ap, arith, rules, IsTrue}
 use Rattle.std.proofs.lemmas.List.{drop_all}
-use Rattle.rc_model.specs.Token.{tokens_from, between}
+use Rattle.rc_base.specs.Token.{tokens_from, between}
 use Rattle.rc_form.specs.Lexer.{tokens_at}
 use Rattle.rc_form.specs.Reader.{is_reading}
 use Rattle.rc_form.proofs.reading.read_lists.Goals as goal

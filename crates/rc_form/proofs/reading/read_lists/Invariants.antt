@@ -1,5 +1,5 @@
 use Rattle.std.proofs.Common.{◌≡◌, ◌-◌, ◌<◌, ◌≤◌, length, [], IsTrue, slice_index}
-use Rattle.rc_model.specs.Token.{tokens}
+use Rattle.rc_base.specs.Token.{tokens}
 use Rattle.rc_form.specs.Lexer.{tokens_at, begins_token}
 use Rattle.rc_form.specs.Read.{read}
 use Rattle.rc_form.specs.Reader.{reads}

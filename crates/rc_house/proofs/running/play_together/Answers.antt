@@ -1,6 +1,6 @@
 use Rattle.std.proofs.Common.{IfOk, ◌<◌, sym, subst}
-use Rattle.rc_play_model.specs.About.{about_of}
-use Rattle.rc_records.specs.Series.{IsTold}
+use Rattle.rc_play_spec.specs.About.{about_of}
+use Rattle.rc_series.specs.Series.{IsTold}
 use Rattle.rc_rules.specs.Plan.{plan_seen}
 use Rattle.rc_house.specs.Running.{IsSeriesOf}
 use Rattle.rc_house.proofs.PlayingLemmas.{played_together}

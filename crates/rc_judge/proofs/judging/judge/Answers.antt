@@ -1,8 +1,8 @@
 use Rattle.std.proofs.Common.{false, subst}
-use Rattle.rc_play_model.specs.Keyed.{dealing_of}
-use Rattle.rc_text_model.specs.HouseText.{unmarked}
-use Rattle.rc_text_model.specs.Judged.{first_illegal}
-use Rattle.rc_text_model.specs.Legal.{IsLegal}
+use Rattle.rc_play_spec.specs.Keyed.{dealing_of}
+use Rattle.rc_play_spec.specs.HouseText.{unmarked}
+use Rattle.rc_play_spec.specs.Judged.{first_illegal}
+use Rattle.rc_play_spec.specs.Legal.{IsLegal}
 use Rattle.rc_rules.specs.Plan.{plan_seen}
 use Rattle.rc_text.specs.House.{house_text_seen}
 use Rattle.rc_judge.specs.Seen.{Finds}

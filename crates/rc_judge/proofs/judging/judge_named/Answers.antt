@@ -1,10 +1,10 @@
 use Rattle.std.proofs.Common.{◌≡◌, ◌+◌, [], length, true, subst, sym, ap, ◌∙◌}
 use Rattle.std.proofs.lemmas.List.{length-map}
-use Rattle.rc_play_model.specs.Keyed.{dealing_of}
-use Rattle.rc_text_model.specs.Along.{judged}
-use Rattle.rc_text_model.specs.Naming.{legend_of, face_line, face_numbers}
-use Rattle.rc_text_model.specs.Judged.{first_illegal}
-use Rattle.rc_text_model.specs.Legal.{IsLegalText}
+use Rattle.rc_play_spec.specs.Keyed.{dealing_of}
+use Rattle.rc_play_spec.specs.Along.{judged}
+use Rattle.rc_play_spec.specs.Naming.{legend_of, face_line, face_numbers}
+use Rattle.rc_play_spec.specs.Judged.{first_illegal}
+use Rattle.rc_play_spec.specs.Legal.{IsLegalText}
 use Rattle.rc_rules.specs.Plan.{plan_seen}
 use Rattle.rc_text.specs.House.{house_text_seen, named_seen}
 use Rattle.rc_judge.specs.Seen.{Finds, marks_left}

@@ -2,9 +2,9 @@ use Rattle.std.proofs.Common.{◌≡◌, suc, ◌+◌, ◌++◌, ◌∷◌, [], 
 use Rattle.std.proofs.Math.Seq.{take-suc}
 use Rattle.std.proofs.lemmas.List.{take_all}
 use Rattle.std.proofs.lemmas.List.Elements.{All-push}
-use Rattle.rc_play_model.specs.Keyed.{dealing_of}
-use Rattle.rc_text_model.specs.Along as along
-use Rattle.rc_text_model.specs.Judged.{play_after}
+use Rattle.rc_play_spec.specs.Keyed.{dealing_of}
+use Rattle.rc_play_spec.specs.Along as along
+use Rattle.rc_play_spec.specs.Judged.{play_after}
 use Rattle.rc_rules.specs.declared.record.MatchRecord.{MatchRecord}
 use Rattle.rc_rules.specs.Plan.{plan_seen}
 use Rattle.rc_rules.specs.Record.{record_seen}

@@ -1,6 +1,6 @@
 use Rattle.std.proofs.Common.{◌≡◌, ◌+◌, ◌++◌, ◌≤◌, [], true, length, map, take, drop, All}
-use Rattle.rc_play_model.specs.Keyed.{dealing_of}
-use Rattle.rc_text_model.specs.Along as along
+use Rattle.rc_play_spec.specs.Keyed.{dealing_of}
+use Rattle.rc_play_spec.specs.Along as along
 use Rattle.rc_rules.specs.Plan.{plan_seen}
 use Rattle.rc_rules.specs.Record.{record_seen}
 use Rattle.rc_judge.specs.Seen.{lines_in_all, lists_over}

@@ -1,9 +1,9 @@
 use Rattle.std.proofs.Common.{◌≡◌, ◌+◌, List, map, drop, None}
-use Rattle.rc_model.specs.Transcript.{Record}
-use Rattle.rc_play_model.specs.Plan.{Plan}
-use Rattle.rc_play_model.specs.House.{standings_of}
-use Rattle.rc_text_model.specs.Rows.{further_row}
-use Rattle.rc_text_model.specs.Along as along
+use Rattle.rc_base.specs.Transcript.{Record}
+use Rattle.rc_play_spec.specs.Plan.{Plan}
+use Rattle.rc_play_spec.specs.House.{standings_of}
+use Rattle.rc_play_spec.specs.Rows.{further_row}
+use Rattle.rc_play_spec.specs.Along as along
 use Rattle.rc_rules.specs.Record.{standing_seen}
 use Rattle.rc_judge.proofs.judging.standings_along.Given as goal
 

@@ -1,8 +1,8 @@
 use Rattle.std.proofs.Common.{◌≡◌, ◌+◌, Ok, map, sym, ap, subst, ◌∙◌}
-use Rattle.rc_play_model.specs.Keyed.{dealing_of}
-use Rattle.rc_text_model.specs.Rows.{further_row}
-use Rattle.rc_text_model.specs.Along as along
-use Rattle.rc_text_model.proofs.LegalLemmas.{or_on}
+use Rattle.rc_play_spec.specs.Keyed.{dealing_of}
+use Rattle.rc_play_spec.specs.Rows.{further_row}
+use Rattle.rc_play_spec.specs.Along as along
+use Rattle.rc_play_spec.proofs.LegalLemmas.{or_on}
 use Rattle.rc_rules.specs.Plan.{plan_seen}
 use Rattle.rc_rules.specs.Record.{record_seen, standing_seen}
 use Rattle.rc_judge.specs.Seen.{IsFound, row_seen}

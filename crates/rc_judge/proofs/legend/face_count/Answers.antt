@@ -1,6 +1,6 @@
 use Rattle.std.proofs.Common.{◌≡◌, ◌==◌, ◌+◌, ℕ, true, false, ap, sym, ◌∙◌, arith}
 use Rattle.std.proofs.lemmas.Grind.{common_steps}
-use Rattle.rc_play_model.specs.Shape.{face_number}
+use Rattle.rc_play_spec.specs.Shape.{face_number}
 use Rattle.rc_judge.proofs.Fits.{count_more}
 use Rattle.rc_judge.proofs.legend.face_count.Goals as goal
 use Rattle.rc_judge.proofs.legend.face_count.Goals.{then-face_number-id, else-face_number-id}

@@ -1,6 +1,6 @@
 use Rattle.std.proofs.Common.{◌≡◌, ◌≤◌, ◌==◌, filter, length}
-use Rattle.rc_model.specs.Numbers.{below}
-use Rattle.rc_play_model.specs.Shape.{face_number}
+use Rattle.rc_base.specs.Numbers.{below}
+use Rattle.rc_play_spec.specs.Shape.{face_number}
 use Rattle.rc_judge.proofs.legend.face_count.Given as goal
 
 abbrev pub invariant-loop-id : goal.invariant-loop-id

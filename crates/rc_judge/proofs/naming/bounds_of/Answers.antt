@@ -1,5 +1,5 @@
 use Rattle.std.proofs.Common.{length, map, subst, sym, ap, ◌∙◌}
-use Rattle.rc_model.specs.Transcript.{Record}
+use Rattle.rc_base.specs.Transcript.{Record}
 use Rattle.rc_judge.specs.Seen.{IfLegal}
 use Rattle.rc_text.specs.BoundSeen.{AreFor}
 use Rattle.rc_judge.proofs.Fits.{counts_seen}

@@ -1,8 +1,8 @@
 use Rattle.std.proofs.Common.{ℕ, ◌+◌, map, Some, sym, ap, subst, ◌∙◌}
 use Rattle.rc_rules.specs.Control.{stopped_of}
-use Rattle.rc_text_model.specs.Rows.{ending_row}
-use Rattle.rc_text_model.specs.Along as along
-use Rattle.rc_text_model.proofs.LegalLemmas.{on_row_none, and_on}
+use Rattle.rc_play_spec.specs.Rows.{ending_row}
+use Rattle.rc_play_spec.specs.Along as along
+use Rattle.rc_play_spec.proofs.LegalLemmas.{on_row_none, and_on}
 use Rattle.rc_rules.specs.Record.{record_seen, score_seen}
 use Rattle.rc_judge.specs.Seen.{Judges, row_seen}
 use Rattle.rc_judge.proofs.Steps.{halts, halts_first, hands_on}

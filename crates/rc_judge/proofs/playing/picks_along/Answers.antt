@@ -1,9 +1,9 @@
 use Rattle.std.proofs.Common.{◌≡◌, ℕ, ◌+◌, ◌++◌, ◌∷◌, [], None, Some, get_or, map, drop, append_assoc, arith, sym, ap, subst, ◌∙◌}
-use Rattle.rc_play_model.specs.Keyed.{dealing_of}
-use Rattle.rc_play_model.specs.Plan.{Plan, deal_at}
-use Rattle.rc_text_model.specs.Along.{marks_from, next_stop, picks_along}
-use Rattle.rc_text_model.specs.HouseText.{first_marks}
-use Rattle.rc_text_model.specs.Rows.{chosen_row, decision_row}
+use Rattle.rc_play_spec.specs.Keyed.{dealing_of}
+use Rattle.rc_play_spec.specs.Plan.{Plan, deal_at}
+use Rattle.rc_play_spec.specs.Along.{marks_from, next_stop, picks_along}
+use Rattle.rc_play_spec.specs.HouseText.{first_marks}
+use Rattle.rc_play_spec.specs.Rows.{chosen_row, decision_row}
 use Rattle.rc_rules.specs.declared.record.Pick.{Pick}
 use Rattle.rc_rules.specs.Control.{stop_seen, stopped_of}
 use Rattle.rc_rules.specs.Machine.{IsWhereItStops, bounds_here}

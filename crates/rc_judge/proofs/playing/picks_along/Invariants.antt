@@ -1,7 +1,7 @@
 use Rattle.std.proofs.Common.{◌≡◌, ℕ, ◌+◌, ◌++◌, map, drop, Some, true, false}
-use Rattle.rc_play_model.specs.Plan.{Plan, deal_at}
-use Rattle.rc_play_model.specs.Keyed.{dealing_of}
-use Rattle.rc_text_model.specs.Along as along
+use Rattle.rc_play_spec.specs.Plan.{Plan, deal_at}
+use Rattle.rc_play_spec.specs.Keyed.{dealing_of}
+use Rattle.rc_play_spec.specs.Along as along
 use Rattle.rc_rules.specs.Control.{stop_seen, stopped_of}
 use Rattle.rc_rules.specs.Record.{pick_seen}
 use Rattle.rc_rules.specs.Machine.{IsWhereItStops}

@@ -1,10 +1,10 @@
 use Rattle.std.proofs.Common.{◌≡◌, ◌+◌, ◌<◌, map, drop, length, Some, arith, sym, ap, ◌∙◌}
 use Rattle.rc_rules.specs.Control.{stopped_of}
-use Rattle.rc_model.specs.Numbers.{below}
-use Rattle.rc_sheet_model.specs.Sheet.{Sheet}
-use Rattle.rc_play_model.specs.Scores.{scores_of, rank_points}
-use Rattle.rc_text_model.specs.Along as along
-use Rattle.rc_text_model.proofs.LegalLemmas.{on_row_none}
+use Rattle.rc_base.specs.Numbers.{below}
+use Rattle.rc_sheet_spec.specs.Sheet.{Sheet}
+use Rattle.rc_play_spec.specs.Scores.{scores_of, rank_points}
+use Rattle.rc_play_spec.specs.Along as along
+use Rattle.rc_play_spec.proofs.LegalLemmas.{on_row_none}
 use Rattle.rc_rules.specs.Record.{score_seen}
 use Rattle.rc_judge.specs.Seen.{row_seen}
 use Rattle.rc_judge.proofs.Steps.{dropped, halts, hands_on}

@@ -1,6 +1,6 @@
 use Rattle.std.proofs.Common.{◌≡◌, ℕ, ◌+◌, ◌≤◌, map, drop, Some}
 use Rattle.rc_rules.specs.Control.{stopped_of}
-use Rattle.rc_text_model.specs.Along as along
+use Rattle.rc_play_spec.specs.Along as along
 use Rattle.rc_rules.specs.declared.control.Stop.{Stop}
 use Rattle.rc_rules.specs.Record.{score_seen}
 use Rattle.rc_judge.proofs.playing.scores_along.Given as goal

@@ -1,8 +1,8 @@
 use Rattle.std.proofs.Common.{◌+◌, Some, Ok, sym, ◌∙◌}
 use Rattle.rc_rules.specs.Control.{stopped_of}
-use Rattle.rc_text_model.specs.Rows.{shuffled_row}
-use Rattle.rc_text_model.specs.Along.{told_along}
-use Rattle.rc_text_model.proofs.LegalLemmas.{on_row_none}
+use Rattle.rc_play_spec.specs.Rows.{shuffled_row}
+use Rattle.rc_play_spec.specs.Along.{told_along}
+use Rattle.rc_play_spec.proofs.LegalLemmas.{on_row_none}
 use Rattle.rc_judge.specs.Seen.{row_seen}
 use Rattle.rc_judge.proofs.Steps.{free, halts, hands_on, told_line}
 use Rattle.rc_judge.proofs.playing.told_along.Goals as goal

@@ -1,7 +1,7 @@
 use Rattle.std.proofs.Common.{arith, ap}
 use Rattle.std.proofs.lemmas.Grind.{common_steps}
 use Rattle.rc_rules.specs.Record.{score_seen}
-use Rattle.rc_text_model.specs.Rows.{is_the_score}
+use Rattle.rc_play_spec.specs.Rows.{is_the_score}
 use Rattle.rc_judge.proofs.Told.{score_told}
 use Rattle.rc_judge.proofs.rows.is_score.Goals as goal
 

@@ -1,6 +1,6 @@
 use Rattle.std.proofs.Common.{ap, sym, ◌∙◌}
-use Rattle.rc_text_model.specs.Why.{by_score}
-use Rattle.rc_text_model.specs.Rows.{unless}
+use Rattle.rc_play_spec.specs.Why.{by_score}
+use Rattle.rc_play_spec.specs.Rows.{unless}
 use Rattle.rc_judge.proofs.rows.scored_row.Goals as goal
 
 pub returns-then-is_score-clause-row : goal.returns-then-is_score-clause-row

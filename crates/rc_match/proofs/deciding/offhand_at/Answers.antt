@@ -1,6 +1,6 @@
 use Rattle.std.proofs.Common.{length, ap, ◌∙◌, arith}
-use Rattle.rc_play_model.specs.Plan.{strategy_at, deal_at}
-use Rattle.rc_play_model.specs.View.{view_of}
+use Rattle.rc_play_spec.specs.Plan.{strategy_at, deal_at}
+use Rattle.rc_play_spec.specs.View.{view_of}
 use Rattle.rc_rules.specs.Plan.{plan_seen}
 use Rattle.rc_rules.specs.Machine.{menu_here}
 use Rattle.rc_match.proofs.OffhandLemmas.{offhand_chosen, same_offhand}

@@ -1,9 +1,9 @@
 use Rattle.std.proofs.Common.{ℕ, ◌<◌, List, [], ◌∷◌, length, ◌∙◌, arith}
 use Rattle.std.specs.List.{AllByRecursion}
-use Rattle.rc_model.specs.Limits.{most_sites}
-use Rattle.rc_model.specs.Numbers.{below}
-use Rattle.rc_model.specs.Transcript.{Pick, Record}
-use Rattle.rc_play_model.specs.Plan.{Plan, strategy_held}
+use Rattle.rc_base.specs.Limits.{most_sites}
+use Rattle.rc_base.specs.Numbers.{below}
+use Rattle.rc_base.specs.Transcript.{Pick, Record}
+use Rattle.rc_play_spec.specs.Plan.{Plan, strategy_held}
 use Rattle.rc_measure.specs.Tally.{at_site, tally_where}
 use Rattle.rc_measure.specs.Measures.{sites_met}
 use Rattle.rc_measure.proofs.Sums.{sum_kept}

@@ -1,6 +1,6 @@
 use Rattle.std.proofs.Common.{◌≤◌, ◌<◌, ℕ, nat_le, length, sym, arith}
 use Rattle.std.proofs.lemmas.Bool.{le-leb, lt-leb}
-use Rattle.rc_play_model.specs.House.{points_in}
+use Rattle.rc_play_spec.specs.House.{points_in}
 use Rattle.std.proofs.lemmas.List.{length-map}
 use Rattle.rc_rules.specs.Plan.{plan_seen, strategy_seen}
 use Rattle.rc_rules.specs.Record.{record_seen}

@@ -2,7 +2,7 @@ use Rattle.std.proofs.Common.{◌≡◌, ◌==◌, length, get_or, sym, ◌∙�
 use Rattle.std.proofs.Common.{below_more}
 use Rattle.std.proofs.lemmas.Bool.{eq-eqb, ne_eqb}
 use Rattle.std.proofs.lemmas.List.Sums.{position_or_len_is}
-use Rattle.rc_play_model.specs.House.{ahead}
+use Rattle.rc_play_spec.specs.House.{ahead}
 use Rattle.rc_measure.proofs.leads.leader.Goals as goal
 
 pub returns-then-ahead-eq0 : goal.returns-then-ahead-eq0

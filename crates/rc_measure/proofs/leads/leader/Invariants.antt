@@ -1,5 +1,5 @@
 use Rattle.std.proofs.Common.{◌≡◌, ◌<◌, ◌==◌, ℕ, false, get_or}
-use Rattle.rc_play_model.specs.House.{ahead}
+use Rattle.rc_play_spec.specs.House.{ahead}
 use Rattle.rc_measure.proofs.leads.leader.Given as goal
 
 abbrev pub invariant-loop-k : goal.invariant-loop-k

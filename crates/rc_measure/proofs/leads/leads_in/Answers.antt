@@ -1,6 +1,6 @@
 use Rattle.std.proofs.Common.{◌≡◌, ◌≤◌, ◌<◌, ℕ, ◌+◌, ◌-◌, ◌*◌, true, false, length, map, take, count_by, List, get_or, sym, ap, ◌∙◌, arith}
 use Rattle.std.proofs.lemmas.List.{length-map}
-use Rattle.rc_play_model.specs.House.{points_in, points_of}
+use Rattle.rc_play_spec.specs.House.{points_in, points_of}
 use Rattle.rc_rules.specs.declared.record.MatchRecord.{MatchRecord}
 use Rattle.rc_rules.specs.Plan.{plan_seen, strategy_seen}
 use Rattle.rc_rules.specs.Record.{record_seen}

@@ -2,7 +2,7 @@ use Rattle.std.proofs.Common.{◌≡◌, ◌≤◌, ◌<◌, ◌*◌, ◌-◌, �
 use Rattle.rc_rules.specs.Record.{record_seen}
 use Rattle.rc_rules.specs.Plan.{plan_seen}
 use Rattle.std.specs.List.{range_with_len}
-use Rattle.rc_play_model.specs.House.{points_of}
+use Rattle.rc_play_spec.specs.House.{points_of}
 use Rattle.rc_measure.specs.Leads.{leader_after, changes_at}
 use Rattle.rc_measure.proofs.leads.leads_in.Given as goal
 

@@ -1,6 +1,6 @@
 use Rattle.std.proofs.Common.{◌≡◌, ◌≤◌, ◌*◌, map, take, sum_by}
 use Rattle.rc_rules.specs.Record.{record_seen}
-use Rattle.rc_play_model.specs.House.{points_at}
+use Rattle.rc_play_spec.specs.House.{points_at}
 use Rattle.rc_measure.proofs.measures.seat_points.Given as goal
 
 abbrev pub invariant-loop-played : goal.invariant-loop-played

@@ -1,6 +1,6 @@
 use Rattle.std.proofs.Common.{◌≡◌, map}
 use Rattle.rc_rules.specs.Record.{record_seen}
-use Rattle.rc_model.specs.Numbers.{below}
+use Rattle.rc_base.specs.Numbers.{below}
 use Rattle.rc_measure.specs.Measures.{seat_row}
 use Rattle.rc_measure.proofs.measures.seat_rows.Given as goal
 

@@ -1,5 +1,5 @@
 use Rattle.std.proofs.Common.{◌≡◌, ◌<◌, map, filter, ap, ◌∙◌, arith}
-use Rattle.rc_model.specs.Numbers.{below}
+use Rattle.rc_base.specs.Numbers.{below}
 use Rattle.rc_rules.specs.Record.{record_seen}
 use Rattle.rc_measure.specs.Measures.{site_row, is_met, sites_met}
 use Rattle.rc_measure.proofs.GroupLemmas.{at_place}

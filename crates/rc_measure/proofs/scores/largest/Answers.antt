@@ -3,7 +3,7 @@ use Rattle.std.specs.Int.{int_max}
 use Rattle.std.proofs.lemmas.Int.{to_z-of_z}
 use Rattle.std.proofs.lemmas.List.Sums.{fold_push}
 use Rattle.std.proofs.Common.{to_z, of_z, w64}
-use Rattle.rc_model.specs.Clamp.{IsWithinClamp}
+use Rattle.rc_base.specs.Clamp.{IsWithinClamp}
 use Rattle.rc_rules.specs.declared.record.Score.{Score}
 use Rattle.rc_measure.proofs.CodeLemmas.{scores_of, scores_more, within_max}
 use Rattle.rc_measure.proofs.scores.largest.Goals as goal

@@ -1,5 +1,5 @@
 use Rattle.std.proofs.Common.{◌≡◌, take, fold}
-use Rattle.rc_model.specs.Clamp.{IsWithinClamp}
+use Rattle.rc_base.specs.Clamp.{IsWithinClamp}
 use Rattle.std.specs.Int.{int_min}
 use Rattle.rc_measure.proofs.CodeLemmas.{scores_of}
 use Rattle.rc_measure.proofs.scores.smallest.Given as goal

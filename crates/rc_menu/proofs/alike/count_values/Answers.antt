@@ -2,7 +2,7 @@ use Rattle.std.proofs.Common.{ap, sym, ◌∙◌, length}
 use Rattle.std.specs.Prelude.{Some}
 use Rattle.std.specs.List.{filter, filter_map}
 use Rattle.std.proofs.lemmas.List.{length-map}
-use Rattle.rc_play_model.specs.Value.{attr_of, both, nat_same, firsts}
+use Rattle.rc_play_spec.specs.Value.{attr_of, both, nat_same, firsts}
 use Rattle.rc_value.specs.Scene.{scene_seen}
 use Rattle.rc_menu.proofs.alike.count_values.Goals as goal
 

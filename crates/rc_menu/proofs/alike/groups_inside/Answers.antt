@@ -1,5 +1,5 @@
 use Rattle.std.proofs.Common.{ap, ◌∙◌, ◌++◌, ◌∷◌, []}
-use Rattle.rc_sheet_model.specs.Sheet.{any_alt}
+use Rattle.rc_sheet_spec.specs.Sheet.{any_alt}
 use Rattle.rc_ast.specs.Expressions.{coll_seen, domain_seen}
 use Rattle.rc_ast.specs.Items.{alt_seen}
 use Rattle.rc_value.specs.Scene.{scene_seen}

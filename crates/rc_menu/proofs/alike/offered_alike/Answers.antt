@@ -1,6 +1,6 @@
 use Rattle.std.proofs.Common.{◌≡◌, ◌++◌, ◌∷◌, [], false, cond, length, ap, sym, ◌∙◌}
-use Rattle.rc_play_model.specs.Menu.{spots_of}
-use Rattle.rc_play_model.specs.Value.{player_bound, test_value}
+use Rattle.rc_play_spec.specs.Menu.{spots_of}
+use Rattle.rc_play_spec.specs.Value.{player_bound, test_value}
 use Rattle.rc_ast.specs.Expressions.{test_seen}
 use Rattle.rc_ast.specs.Items.{alt_seen}
 use Rattle.rc_flow.specs.Reads.{reads_test}

@@ -1,6 +1,6 @@
 use Rattle.std.proofs.Common.{◌++◌, ◌∷◌, [], arith, ap, sym, ◌∙◌}
 use Rattle.rc_ast.specs.Expressions.{tests_seen}
-use Rattle.rc_play_model.specs.Value.{card_bound, tests_value}
+use Rattle.rc_play_spec.specs.Value.{card_bound, tests_value}
 use Rattle.rc_menu.specs.Asks.{joined}
 use Rattle.rc_value.specs.Scene.{scene_seen}
 use Rattle.rc_value.proofs.Steps.{tests_here}

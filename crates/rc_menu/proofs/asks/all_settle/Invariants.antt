@@ -1,7 +1,7 @@
 use Rattle.std.proofs.Common.{◌≡◌, ◌+◌, ◌≤◌, ◌++◌, ◌∷◌, [], length, map, drop}
 use Rattle.rc_ast.specs.Expressions.{tests_seen}
-use Rattle.rc_play_model.specs.Scene.{CardValue}
-use Rattle.rc_play_model.specs.Value.{card_bound, tests_value}
+use Rattle.rc_play_spec.specs.Scene.{CardValue}
+use Rattle.rc_play_spec.specs.Value.{card_bound, tests_value}
 use Rattle.rc_menu.specs.Asks.{ask_value, AllFit, joined}
 use Rattle.rc_value.specs.Depth.{tests_depth}
 use Rattle.rc_value.specs.Scene.{scene_seen}

@@ -1,5 +1,5 @@
 use Rattle.std.proofs.Common.{arith, sym, ◌∙◌}
-use Rattle.rc_play_model.specs.Scene.{id_of}
+use Rattle.rc_play_spec.specs.Scene.{id_of}
 use Rattle.rc_value.specs.Scene.{scene_seen}
 use Rattle.rc_menu.proofs.AskLemmas.{met_here, met_depth}
 use Rattle.rc_value.proofs.RowLemmas.{met_in_row}

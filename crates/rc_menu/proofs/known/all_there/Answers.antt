@@ -1,7 +1,7 @@
 use Rattle.std.proofs.Common.{◌∙◌}
 use Rattle.rc_ast.specs.Names.{loc_seen}
-use Rattle.rc_play_model.specs.Value.{coll_value}
-use Rattle.rc_sheet_model.specs.Sheet.{cards_in}
+use Rattle.rc_play_spec.specs.Value.{coll_value}
+use Rattle.rc_sheet_spec.specs.Sheet.{cards_in}
 use Rattle.rc_value.specs.Scene.{scene_seen}
 use Rattle.rc_value.proofs.RowLemmas.{all_met}
 use Rattle.rc_menu.proofs.known.all_there.Goals as goal

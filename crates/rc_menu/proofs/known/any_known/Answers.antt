@@ -1,8 +1,8 @@
 use Rattle.std.proofs.Common.{refl}
 use Rattle.rc_ast.specs.Names.{loc_seen}
 use Rattle.rc_ast.specs.Expressions.{domain_seen, test_seen}
-use Rattle.rc_play_model.specs.Value.{coll_value}
-use Rattle.rc_sheet_model.specs.Sheet.{cards_in}
+use Rattle.rc_play_spec.specs.Value.{coll_value}
+use Rattle.rc_sheet_spec.specs.Sheet.{cards_in}
 use Rattle.rc_value.specs.Scene.{scene_seen}
 use Rattle.rc_menu.proofs.KnownLemmas.{any_known_there}
 use Rattle.rc_menu.proofs.known.any_known.Goals as goal

@@ -1,7 +1,7 @@
 use Rattle.std.proofs.Common.{ap, subst}
 use Rattle.std.specs.Prelude.{IfSome, int_lt, int_le}
 use Rattle.std.specs.Ordering.{int_eq}
-use Rattle.rc_play_model.specs.Value.{test_value}
+use Rattle.rc_play_spec.specs.Value.{test_value}
 use Rattle.rc_ast.specs.Expressions.{int_seen, domain_seen, test_seen}
 use Rattle.rc_menu.specs.Known.{IsAllKnownAt, IsAnyKnownAt, IsKnownPair}
 use Rattle.rc_value.specs.Scene.{scene_seen}

@@ -1,11 +1,11 @@
 use Rattle.std.proofs.Common.{◌≡◌, ℕ, List, ◌<◌, ◌++◌, ◌∷◌, [], cond, length, map, take, arith, ap, sym, ◌∙◌}
 use Rattle.std.proofs.lemmas.List.{length-map}
-use Rattle.rc_model.specs.Numbers.{below}
+use Rattle.rc_base.specs.Numbers.{below}
 use Rattle.rc_deck.proofs.RangeLemmas.{below_length}
-use Rattle.rc_sheet_model.specs.Sheet.{any_alt, each_player, each_card, each_group}
-use Rattle.rc_play_model.specs.Scene.{CardValue}
-use Rattle.rc_play_model.specs.Value.{Bind as PureBind, card_bound, player_bound, group_bound, coll_value, groups_by}
-use Rattle.rc_play_model.specs.Menu.{spots_of, from_each}
+use Rattle.rc_sheet_spec.specs.Sheet.{any_alt, each_player, each_card, each_group}
+use Rattle.rc_play_spec.specs.Scene.{CardValue}
+use Rattle.rc_play_spec.specs.Value.{Bind as PureBind, card_bound, player_bound, group_bound, coll_value, groups_by}
+use Rattle.rc_play_spec.specs.Menu.{spots_of, from_each}
 use Rattle.rc_ast.specs.Expressions.{domain_seen, coll_seen, test_seen}
 use Rattle.rc_ast.specs.Items.{alt_seen}
 use Rattle.rc_value.specs.Cards.{value_seen, values_seen}

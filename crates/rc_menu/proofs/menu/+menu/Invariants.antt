@@ -1,7 +1,7 @@
 use Rattle.std.proofs.Common.{◌≡◌, ◌≤◌, ◌++◌, ◌∷◌, [], length, map, take, drop}
-use Rattle.rc_model.specs.Numbers.{below}
-use Rattle.rc_play_model.specs.Value.{card_bound, player_bound, group_bound}
-use Rattle.rc_play_model.specs.Menu.{spots_of, from_each}
+use Rattle.rc_base.specs.Numbers.{below}
+use Rattle.rc_play_spec.specs.Value.{card_bound, player_bound, group_bound}
+use Rattle.rc_play_spec.specs.Menu.{spots_of, from_each}
 use Rattle.rc_ast.specs.Items.{alt_seen}
 use Rattle.rc_value.specs.Scene.{scene_seen}
 use Rattle.rc_value.specs.Groups.{with_value}

@@ -1,7 +1,7 @@
 use Rattle.std.proofs.Common.{ap, sym, subst, ◌∙◌}
 use Rattle.std.specs.Prelude.{All}
-use Rattle.rc_play_model.specs.Menu.{menu_from as pure_menu_from, menu_of as pure_menu_of}
-use Rattle.rc_play_model.specs.Scene.{scene_of}
+use Rattle.rc_play_spec.specs.Menu.{menu_from as pure_menu_from, menu_of as pure_menu_of}
+use Rattle.rc_play_spec.specs.Scene.{scene_of}
 use Rattle.rc_ast.specs.Sheet.{sheet_seen}
 use Rattle.rc_value.specs.Binding.{BindsFew}
 use Rattle.rc_value.specs.Scene.{scene_seen}

@@ -1,6 +1,6 @@
 use Rattle.std.proofs.Common.{ap, sym, subst, ◌∙◌}
 use Rattle.std.specs.Prelude.{All}
-use Rattle.rc_play_model.specs.Menu.{menu_from as pure_menu_from}
+use Rattle.rc_play_spec.specs.Menu.{menu_from as pure_menu_from}
 use Rattle.rc_value.specs.Binding.{BindsFew}
 use Rattle.rc_value.specs.Scene.{scene_seen}
 use Rattle.rc_menu.proofs.menu.fill_offers.Goals as goal

@@ -1,6 +1,6 @@
 use Rattle.std.proofs.Common.{◌≡◌, ◌++◌, [], map, take, arith, ap, sym, subst, ◌∙◌}
 use Rattle.std.proofs.lemmas.List.{length-map, take-map}
-use Rattle.rc_play_model.specs.Menu.{spots_of, item_of, paths_of}
+use Rattle.rc_play_spec.specs.Menu.{spots_of, item_of, paths_of}
 use Rattle.rc_rules.specs.Menu.{item_seen, menu_seen}
 use Rattle.rc_value.specs.Binding.{BindsFew}
 use Rattle.rc_menu.specs.Menu.{extended}

@@ -1,5 +1,5 @@
 use Rattle.std.proofs.Common.{◌≡◌, ◌≤◌, ◌++◌, [], length, map, take, drop}
-use Rattle.rc_play_model.specs.Menu.{spots_of, from_each, item_of}
+use Rattle.rc_play_spec.specs.Menu.{spots_of, from_each, item_of}
 use Rattle.rc_rules.specs.Menu.{menu_seen}
 use Rattle.rc_value.specs.Scene.{scene_seen}
 use Rattle.rc_menu.proofs.menu.make_offers.Given as goal

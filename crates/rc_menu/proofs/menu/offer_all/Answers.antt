@@ -1,6 +1,6 @@
 use Rattle.std.proofs.Common.{◌≡◌, ◌++◌, [], length, map, take, arith, ap, ◌∙◌}
 use Rattle.std.proofs.lemmas.List.{length-map, take-map}
-use Rattle.rc_play_model.specs.Menu.{spots_of, item_of, paths_of}
+use Rattle.rc_play_spec.specs.Menu.{spots_of, item_of, paths_of}
 use Rattle.rc_ast.specs.Items.{alt_seen, alts_seen}
 use Rattle.rc_rules.specs.Menu.{item_seen, menu_seen}
 use Rattle.rc_value.specs.Binding.{BindsFew}

@@ -1,6 +1,6 @@
 use Rattle.std.proofs.Common.{◌≡◌, ◌<◌, ◌++◌, ◌∷◌, [], length, map, take, drop}
-use Rattle.rc_model.specs.Numbers.{below}
-use Rattle.rc_play_model.specs.Menu.{from_each}
+use Rattle.rc_base.specs.Numbers.{below}
+use Rattle.rc_play_spec.specs.Menu.{from_each}
 use Rattle.rc_rules.specs.Menu.{item_seen, menu_seen}
 use Rattle.rc_menu.specs.Menu.{extended}
 use Rattle.rc_menu.proofs.offering.offer_count.Given as goal

@@ -1,7 +1,7 @@
 use Rattle.std.proofs.Common.{◌++◌, ◌∷◌, [], true, false, cond, map, take, arith, ap, sym, ◌∙◌}
 use Rattle.std.proofs.lemmas.List.{length-map}
 use Rattle.rc_ast.specs.Expressions.{test_seen}
-use Rattle.rc_play_model.specs.Menu.{from_each}
+use Rattle.rc_play_spec.specs.Menu.{from_each}
 use Rattle.rc_rules.specs.Menu.{item_seen, menu_seen}
 use Rattle.rc_menu.specs.Asks.{ask_value, joined, told_of}
 use Rattle.rc_menu.specs.Menu.{extended}

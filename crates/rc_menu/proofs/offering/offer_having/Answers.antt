@@ -1,7 +1,7 @@
 use Rattle.std.proofs.Common.{◌∷◌, [], cond, get_or, refl, arith, ◌∙◌}
 use Rattle.std.proofs.lemmas.List.{length-map}
 use Rattle.std.specs.Prelude.{slice_index_or, Some, None}
-use Rattle.rc_play_model.specs.Value.{both, nat_same}
+use Rattle.rc_play_spec.specs.Value.{both, nat_same}
 use Rattle.rc_rules.specs.Menu.{item_seen, menu_seen}
 use Rattle.rc_menu.specs.Menu.{extended}
 use Rattle.rc_value.proofs.Lists.{here_is}

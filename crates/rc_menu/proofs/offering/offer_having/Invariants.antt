@@ -1,7 +1,7 @@
 use Rattle.std.proofs.Common.{◌≡◌, ◌<◌, ◌++◌, ◌∷◌, [], length, map, take, drop}
 use Rattle.std.specs.Prelude.{if◌then◌else◌, slice_index_or, Some, None}
-use Rattle.rc_play_model.specs.Menu.{from_each}
-use Rattle.rc_play_model.specs.Value.{both, nat_same}
+use Rattle.rc_play_spec.specs.Menu.{from_each}
+use Rattle.rc_play_spec.specs.Value.{both, nat_same}
 use Rattle.rc_rules.specs.Menu.{item_seen, menu_seen}
 use Rattle.rc_menu.specs.Menu.{extended}
 use Rattle.rc_menu.proofs.offering.offer_having.Given as goal

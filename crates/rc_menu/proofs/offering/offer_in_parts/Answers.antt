@@ -1,9 +1,9 @@
 use Rattle.std.proofs.Common.{◌++◌, ◌∷◌, [], cond, map, take, ap, ◌∙◌}
-use Rattle.rc_sheet_model.specs.Sheet.{cards_in}
-use Rattle.rc_play_model.specs.Menu.{from_each}
-use Rattle.rc_play_model.specs.Value.{coll_value}
+use Rattle.rc_sheet_spec.specs.Sheet.{cards_in}
+use Rattle.rc_play_spec.specs.Menu.{from_each}
+use Rattle.rc_play_spec.specs.Value.{coll_value}
 use Rattle.rc_ast.specs.Names.{loc_seen}
-use Rattle.rc_asked.specs.Guards.{guard_meant}
+use Rattle.rc_code.specs.Guards.{guard_meant}
 use Rattle.rc_rules.specs.Menu.{item_seen, menu_seen}
 use Rattle.rc_menu.specs.Asks.{joined, met_value}
 use Rattle.rc_menu.specs.Menu.{extended}

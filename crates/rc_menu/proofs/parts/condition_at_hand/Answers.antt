@@ -1,9 +1,9 @@
 use Rattle.std.proofs.Common.{◌+◌, List, length, refl, ap, sym, subst, ◌∙◌}
-use Rattle.rc_sheet_model.specs.Sheet.{cards_in, each_card}
-use Rattle.rc_play_model.specs.Scene.{CardValue}
-use Rattle.rc_play_model.specs.Value.{Bind as PureBind, coll_value}
+use Rattle.rc_sheet_spec.specs.Sheet.{cards_in, each_card}
+use Rattle.rc_play_spec.specs.Scene.{CardValue}
+use Rattle.rc_play_spec.specs.Value.{Bind as PureBind, coll_value}
 use Rattle.rc_ast.specs.Names.{loc_seen}
-use Rattle.rc_asked.specs.Guards.{condition_meant, card_test_meant, IsFixedCondition}
+use Rattle.rc_code.specs.Guards.{condition_meant, card_test_meant, IsFixedCondition}
 use Rattle.rc_menu.specs.declared.known.AtHand.TheVariants.{OfCard, Holds}
 use Rattle.rc_menu.specs.Known.{IsAtHand}
 use Rattle.rc_value.specs.Scene.{scene_seen}

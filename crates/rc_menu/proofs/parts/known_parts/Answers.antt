@@ -1,6 +1,6 @@
 use Rattle.std.proofs.Common.{length, arith, ap, sym, subst, ◌∙◌}
 use Rattle.std.specs.Prelude.{All}
-use Rattle.rc_asked.specs.Guards.{IsFixedPart}
+use Rattle.rc_code.specs.Guards.{IsFixedPart}
 use Rattle.rc_menu.specs.Asks.{joined, parts_told}
 use Rattle.rc_value.specs.Scene.{scene_seen}
 use Rattle.rc_menu.proofs.PartLemmas.{guard_told}

@@ -1,5 +1,5 @@
 use Rattle.std.proofs.Common.{sym, subst}
-use Rattle.rc_asked.specs.Guards.{part_meant, condition_meant}
+use Rattle.rc_code.specs.Guards.{part_meant, condition_meant}
 use Rattle.rc_menu.specs.Known.{IsAtHand}
 use Rattle.rc_value.specs.Scene.{scene_seen}
 use Rattle.rc_menu.proofs.KnownLemmas.{turned_hand}

@@ -1,7 +1,7 @@
 use Rattle.std.proofs.Common.{refl, ap, sym, ◌∙◌}
 use Rattle.std.specs.List.{list_all}
-use Rattle.rc_play_model.specs.Scene.{id_of}
-use Rattle.rc_asked.specs.Guards.{part_meant}
+use Rattle.rc_play_spec.specs.Scene.{id_of}
+use Rattle.rc_code.specs.Guards.{part_meant}
 use Rattle.rc_menu.specs.Asks.{asks_value}
 use Rattle.rc_value.specs.Scene.{scene_seen}
 use Rattle.rc_value.proofs.RowLemmas.{met_in_row}

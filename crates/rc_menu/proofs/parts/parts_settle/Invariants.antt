@@ -1,6 +1,6 @@
 use Rattle.std.proofs.Common.{◌≡◌, ◌≤◌, ◌++◌, true, length, map, drop}
 use Rattle.std.specs.List.{list_all}
-use Rattle.rc_play_model.specs.Scene.{CardValue}
+use Rattle.rc_play_spec.specs.Scene.{CardValue}
 use Rattle.rc_menu.specs.Asks.{ask_value, asks_value, joined, parts_told}
 use Rattle.rc_value.specs.Scene.{scene_seen}
 use Rattle.rc_menu.proofs.parts.parts_settle.Given as goal

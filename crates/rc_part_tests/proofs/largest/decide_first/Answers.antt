@@ -1,5 +1,5 @@
 use Rattle.std.proofs.Common.{ap}
-use Rattle.rc_play_model.specs.Keyed.{dealing_of}
+use Rattle.rc_play_spec.specs.Keyed.{dealing_of}
 use Rattle.rc_rules.specs.Control.{stop_seen}
 use Rattle.rc_plain.specs.Plain.{config_of}
 use Rattle.rc_part_tests.proofs.Decided.{first_decides}

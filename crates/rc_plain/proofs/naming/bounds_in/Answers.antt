@@ -1,5 +1,5 @@
 use Rattle.std.proofs.Common.{◌≡◌, ◌<◌, rules, length, slice_index_or}
-use Rattle.rc_state.proofs.Rows.{each_alt}
+use Rattle.rc_value.proofs.EffectRows.{each_alt}
 use Rattle.rc_plain.proofs.naming.bounds_in.Goals as goal
 
 pub item_bounds-requires-clause-well : goal.item_bounds-requires-clause-well

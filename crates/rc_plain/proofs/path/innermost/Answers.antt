@@ -1,8 +1,8 @@
 use Rattle.std.proofs.Common.{ap, sym, ◌∙◌, drop, ◌+◌, get_or, map}
 use Rattle.std.proofs.lemmas.List.{drop_more}
 use Rattle.rc_ast.specs.Items.{item_seen}
-use Rattle.rc_play_model.specs.Path.{body_at}
-use Rattle.rc_play_model.proofs.PathLemmas.{body-more}
+use Rattle.rc_play_spec.specs.Path.{body_at}
+use Rattle.rc_play_spec.proofs.PathLemmas.{body-more}
 use Rattle.rc_plain.proofs.path.innermost.Goals as goal
 
 pub loop-place-preserved : goal.loop-place-preserved

@@ -1,6 +1,6 @@
 use Rattle.std.proofs.Common.{◌≡◌, drop, map}
 use Rattle.rc_ast.specs.Items.{item_seen}
-use Rattle.rc_play_model.specs.Path.{body_at}
+use Rattle.rc_play_spec.specs.Path.{body_at}
 use Rattle.rc_plain.proofs.path.innermost.Given as goal
 
 abbrev pub invariant-loop-place : goal.invariant-loop-place

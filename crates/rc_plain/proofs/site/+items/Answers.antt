@@ -1,6 +1,6 @@
 use Rattle.std.proofs.Common.{◌≡◌, ℕ, ◌+◌, ap, sym, ◌∙◌, subst, ◌++◌, ◌∷◌, [], Some, arith, rules, length}
-use Rattle.rc_play_model.specs.Menu.{alts_in_item}
-use Rattle.rc_play_model.specs.Path.{items_depth}
+use Rattle.rc_play_spec.specs.Menu.{alts_in_item}
+use Rattle.rc_play_spec.specs.Path.{items_depth}
 use Rattle.rc_ast.specs.Items.{item_seen, items_seen}
 use Rattle.arrayvec.specs.ArrayVec.{ArrayVec}
 use Rattle.rc_ast.specs.declared.items.SheetItem.TheFolds

@@ -1,5 +1,5 @@
 use Rattle.std.proofs.Common.{◌≡◌, drop}
-use Rattle.rc_play_model.specs.Menu.{alts_in}
+use Rattle.rc_play_spec.specs.Menu.{alts_in}
 use Rattle.rc_ast.specs.Items.{items_seen}
 use Rattle.rc_plain.proofs.site.+items.Given as goal
 

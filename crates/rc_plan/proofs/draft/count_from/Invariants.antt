@@ -1,5 +1,5 @@
 use Rattle.std.proofs.Common.{◌≡◌, map}
-use Rattle.rc_plan_model.specs.PlanStands.{counted_from}
+use Rattle.rc_play_spec.specs.PlanStands.{counted_from}
 use Rattle.rc_rules.specs.Plan.{deal_seen}
 use Rattle.rc_plan.proofs.draft.count_from.Given as goal
 

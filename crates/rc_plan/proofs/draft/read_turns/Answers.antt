@@ -1,9 +1,9 @@
 use Rattle.std.proofs.Common.{◌∷◌, [], sym, ap, ◌∙◌, arith}
 use Rattle.std.specs.Prelude.{codes}
-use Rattle.rc_model.specs.Tree.{start_of}
+use Rattle.rc_base.specs.Tree.{start_of}
 use Rattle.rc_form.specs.Form.{tree_of, trees_of, packed}
-use Rattle.rc_plan_model.specs.Faults.{fault, row, any_number}
-use Rattle.rc_plan_model.specs.declared.fault.PlanKind.TheVariants.{Shape}
+use Rattle.rc_play_spec.specs.Faults.{fault, row, any_number}
+use Rattle.rc_play_spec.specs.declared.plan_fault.PlanKind.TheVariants.{Shape}
 use Rattle.rc_plan.proofs.Headed.{headed_is, unheaded}
 use Rattle.rc_plan.proofs.Lengths.{other_length}
 use Rattle.rc_plan.proofs.Told.{shape_told}

@@ -1,5 +1,5 @@
 use Rattle.std.proofs.Common.{sym, ap, ◌∙◌}
-use Rattle.rc_model.specs.Tree.{list}
+use Rattle.rc_base.specs.Tree.{list}
 use Rattle.rc_form.specs.Form.{tree_of, trees_of, packed}
 use Rattle.rc_form.proofs.FormLemmas.{tree_of_list}
 use Rattle.rc_plan.proofs.Headed.{is_behind}

@@ -2,8 +2,8 @@ use Rattle.std.proofs.Common.{◌∙◌, sym, true, arith}
 use Rattle.std.proofs.lemmas.List.{at_drop_all}
 use Rattle.rc_form.specs.Form.{trees_of, packed}
 use Rattle.rc_form.proofs.FormLemmas.{count_packed}
-use Rattle.rc_plan_model.specs.Faults.{each, match}
-use Rattle.rc_plan_model.proofs.SomePlan.{all_lists}
+use Rattle.rc_play_spec.specs.Faults.{each, match}
+use Rattle.rc_play_spec.proofs.SomePlan.{all_lists}
 use Rattle.rc_plan.proofs.matches.fault_among.Goals as goal
 
 pub unreachable-requires : goal.unreachable-requires

@@ -1,6 +1,6 @@
 use Rattle.std.proofs.Common.{◌≡◌, drop, true}
 use Rattle.rc_form.specs.Form.{trees_of, packed}
-use Rattle.rc_plan_model.specs.Faults.{each, match}
+use Rattle.rc_play_spec.specs.Faults.{each, match}
 use Rattle.rc_plan.proofs.matches.fault_among.Given as goal
 
 abbrev pub invariant-loop-part : goal.invariant-loop-part

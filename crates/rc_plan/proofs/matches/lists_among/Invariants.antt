@@ -1,6 +1,6 @@
 use Rattle.std.proofs.Common.{◌≡◌, ◌+◌, ◌≤◌, drop}
 use Rattle.rc_form.specs.Form.{trees_of, packed}
-use Rattle.rc_plan_model.specs.Faults.{lists_among}
+use Rattle.rc_play_spec.specs.Faults.{lists_among}
 use Rattle.rc_plan.proofs.matches.lists_among.Given as goal
 
 abbrev pub invariant-loop-part : goal.invariant-loop-part

@@ -1,5 +1,5 @@
 use Rattle.std.proofs.Common.{◌∷◌, [], arith}
-use Rattle.rc_plan_model.specs.Faults.{any_number}
+use Rattle.rc_play_spec.specs.Faults.{any_number}
 use Rattle.rc_plan.proofs.Lengths.{other_length}
 use Rattle.rc_plan.proofs.Told.{shape_told}
 use Rattle.rc_plan.proofs.matches.read_count.Goals as goal

@@ -1,5 +1,5 @@
 use Rattle.std.proofs.Common.{map, false}
-use Rattle.rc_plan_model.specs.Faults.{match}
+use Rattle.rc_play_spec.specs.Faults.{match}
 use Rattle.rc_rules.specs.Plan.{deal_seen}
 use Rattle.rc_plan.specs.Reads.{IsDeal}
 use Rattle.rc_plan.proofs.Turns.{read_all}

@@ -2,7 +2,7 @@ use Rattle.std.proofs.Common.{ap, subst, sym, ◌∙◌, ◌∷◌, []}
 use Rattle.std.specs.Prelude.{codes}
 use Rattle.rc_form.specs.Form.{trees_of, packed}
 use Rattle.rc_form.proofs.FormLemmas.{tree_of_list}
-use Rattle.rc_plan_model.specs.Faults.{match, row, any_number}
+use Rattle.rc_play_spec.specs.Faults.{match, row, any_number}
 use Rattle.rc_plan.specs.Reads.{IsNotHeaded}
 use Rattle.rc_plan.proofs.MatchLemmas.{match_deal}
 use Rattle.rc_plan.proofs.Told.{fail_as, reads_handed_on}

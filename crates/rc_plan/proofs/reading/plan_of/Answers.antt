@@ -1,9 +1,9 @@
 use Rattle.std.proofs.Common.{length, subst, sym, ap, ◌∙◌}
 use Rattle.std.proofs.lemmas.List.{length-map}
 use Rattle.rc_form.specs.Form.{tree_of}
-use Rattle.rc_plan_model.specs.Limits.{IsWithinLimits}
-use Rattle.rc_plan_model.specs.PlanStands.{PlanStands}
-use Rattle.rc_plan_model.specs.PlanFault.{IsPlanFault}
+use Rattle.rc_play_spec.specs.Limits.{IsWithinLimits}
+use Rattle.rc_play_spec.specs.PlanStands.{PlanStands}
+use Rattle.rc_play_spec.specs.PlanFault.{IsPlanFault}
 use Rattle.rc_rules.specs.Plan.{strategy_seen}
 use Rattle.rc_plan.specs.Reads.{IfPlanFault}
 use Rattle.rc_plan.proofs.DraftLemmas.{draft_stands, draft_within}

@@ -1,4 +1,4 @@
-use Rattle.rc_plan_model.specs.Faults.{script_number}
+use Rattle.rc_play_spec.specs.Faults.{script_number}
 use Rattle.rc_plan.specs.Reads.{IsNumberBetween}
 use Rattle.rc_plan.proofs.Turns.{read_all}
 use Rattle.rc_plan.proofs.strategies.read_script.Goals as goal

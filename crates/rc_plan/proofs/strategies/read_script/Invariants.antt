@@ -1,6 +1,6 @@
 use Rattle.std.proofs.Common.{drop}
 use Rattle.rc_form.specs.Form.{trees_of, packed}
-use Rattle.rc_plan_model.specs.Faults.{script_number}
+use Rattle.rc_play_spec.specs.Faults.{script_number}
 use Rattle.rc_plan.specs.Reads.{IsReadSoFar, IsNumberBetween}
 use Rattle.rc_plan.proofs.strategies.read_script.Given as goal
 

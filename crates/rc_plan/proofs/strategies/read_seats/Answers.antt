@@ -1,11 +1,11 @@
 use Rattle.std.proofs.Common.{map, sym, ap, ◌∙◌, arith}
 use Rattle.std.specs.Prelude.{codes}
-use Rattle.rc_model.specs.Tree.{start_of}
+use Rattle.rc_base.specs.Tree.{start_of}
 use Rattle.rc_form.specs.Form.{tree_of, trees_of, packed}
-use Rattle.rc_sheet_model.specs.Rows.{Some}
-use Rattle.rc_plan_model.specs.Faults.{fault, some, strategy}
-use Rattle.rc_plan_model.specs.PlanStands.{InTurn}
-use Rattle.rc_plan_model.specs.declared.fault.PlanKind.TheVariants.{Shape}
+use Rattle.rc_sheet_spec.specs.Rows.{Some}
+use Rattle.rc_play_spec.specs.Faults.{fault, some, strategy}
+use Rattle.rc_play_spec.specs.PlanStands.{InTurn}
+use Rattle.rc_play_spec.specs.declared.plan_fault.PlanKind.TheVariants.{Shape}
 use Rattle.rc_rules.specs.Plan.{strategy_seen}
 use Rattle.rc_plan.specs.Reads.{IsStrategy}
 use Rattle.rc_plan.proofs.Headed.{headed_is, row_is, unheaded}

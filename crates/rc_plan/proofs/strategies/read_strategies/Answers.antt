@@ -1,5 +1,5 @@
 use Rattle.std.proofs.Common.{map}
-use Rattle.rc_plan_model.specs.Faults.{strategy}
+use Rattle.rc_play_spec.specs.Faults.{strategy}
 use Rattle.rc_rules.specs.Plan.{strategy_seen}
 use Rattle.rc_plan.specs.Reads.{IsStrategy}
 use Rattle.rc_plan.proofs.Turns.{read_all}

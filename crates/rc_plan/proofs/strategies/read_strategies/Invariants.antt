@@ -1,6 +1,6 @@
 use Rattle.std.proofs.Common.{drop, map}
 use Rattle.rc_form.specs.Form.{trees_of, packed}
-use Rattle.rc_plan_model.specs.Faults.{strategy}
+use Rattle.rc_play_spec.specs.Faults.{strategy}
 use Rattle.rc_rules.specs.Plan.{strategy_seen}
 use Rattle.rc_plan.specs.Reads.{IsReadSoFar, IsStrategy}
 use Rattle.rc_plan.proofs.strategies.read_strategies.Given as goal

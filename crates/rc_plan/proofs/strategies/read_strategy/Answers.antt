@@ -1,8 +1,8 @@
 use Rattle.std.proofs.Common.{◌≤◌, sym, ap, ◌∙◌}
 use Rattle.rc_form.specs.Form.{tree_of, trees_of, packed}
-use Rattle.rc_plan_model.specs.Faults.{fault}
-use Rattle.rc_plan_model.specs.PlanStands.{Number, InTurn}
-use Rattle.rc_plan_model.specs.declared.fault.PlanKind.TheVariants.{Shape}
+use Rattle.rc_play_spec.specs.Faults.{fault}
+use Rattle.rc_play_spec.specs.PlanStands.{Number, InTurn}
+use Rattle.rc_play_spec.specs.declared.plan_fault.PlanKind.TheVariants.{Shape}
 use Rattle.rc_plan.specs.Reads.{IsNumberBetween}
 use Rattle.rc_plan.proofs.Both.{both_in_turn}
 use Rattle.rc_plan.proofs.Headed.{row_is, strategy_script, no_strategy}

@@ -1,12 +1,12 @@
 use Rattle.std.proofs.Common.{◌≡◌, ℕ, suc, ◌==◌, true, false, List, [], ◌∷◌, ◌++◌, slice_index_or, length, refl, sym, ap, ◌∙◌, arith, append_assoc, append-nil, eqb-true}
-use Rattle.rc_model.specs.Tree.{Tree, printed, printed_parts, printed_behind}
+use Rattle.rc_base.specs.Tree.{Tree, printed, printed_parts, printed_behind}
 use Rattle.rc_deck.specs.declared.tree.Group.{Group}
 use Rattle.rc_deck.specs.declared.tree.Branch.{out-Branch}
 use Rattle.rc_deck.specs.Tree.{attr_of, value_of, branches_of, inner_of, groups_in}
 use Rattle.rc_deck.proofs.TreeLemmas.{attr_of_out, value_of_out, branches_are, inner_of_out}
 use Rattle.rc_deck.proofs.EachLemmas.{on_ok}
-use Rattle.rc_sheet_model.specs.Naming.{Naming}
-use Rattle.rc_sheet_model.specs.Printing.{packed, named, branch_form, group_forms, branch_forms}
+use Rattle.rc_sheet_spec.specs.Naming.{Naming}
+use Rattle.rc_sheet_spec.specs.Printing.{packed, named, branch_form, group_forms, branch_forms}
 use Rattle.rc_print.specs.Printing.{naming_seen}
 use Rattle.rc_print.proofs.Added.{start, then, last}
 use Rattle.rc_print.proofs.decks.+decks.Goals as goal

@@ -1,7 +1,7 @@
 use Rattle.std.proofs.Common.{◌≡◌, ◌++◌, drop}
-use Rattle.rc_model.specs.Tree.{printed_behind}
+use Rattle.rc_base.specs.Tree.{printed_behind}
 use Rattle.rc_deck.specs.Tree.{groups_in, branches_in}
-use Rattle.rc_sheet_model.specs.Printing.{packed, group_forms, branch_forms}
+use Rattle.rc_sheet_spec.specs.Printing.{packed, group_forms, branch_forms}
 use Rattle.rc_print.specs.Printing.{naming_seen}
 use Rattle.rc_print.proofs.decks.+decks.Given as goal
 

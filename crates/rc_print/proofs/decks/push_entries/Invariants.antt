@@ -1,7 +1,7 @@
 use Rattle.std.proofs.Common.{◌≡◌, ◌++◌, map, drop}
-use Rattle.rc_model.specs.Tree.{printed_behind}
+use Rattle.rc_base.specs.Tree.{printed_behind}
 use Rattle.rc_deck.specs.Points.{entry_of}
-use Rattle.rc_sheet_model.specs.Printing.{packed, entry_form}
+use Rattle.rc_sheet_spec.specs.Printing.{packed, entry_form}
 use Rattle.rc_print.specs.Printing.{naming_seen}
 use Rattle.rc_print.proofs.decks.push_entries.Given as goal
 

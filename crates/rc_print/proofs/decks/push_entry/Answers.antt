@@ -1,7 +1,7 @@
 use Rattle.std.proofs.Common.{◌≡◌, ℕ, List, [], ◌∷◌, ◌++◌, map, slice_index_or, ap, ◌∙◌, append_assoc, append-nil, to_z-of_z, w64, rules, SFits}
 use Rattle.std.specs.Fmt.{signed_decimal}
-use Rattle.rc_model.specs.Tree.{printed_parts}
-use Rattle.rc_sheet_model.specs.Printing.{packed, named}
+use Rattle.rc_base.specs.Tree.{printed_parts}
+use Rattle.rc_sheet_spec.specs.Printing.{packed, named}
 use Rattle.rc_print.proofs.Added.{start, then, last}
 use Rattle.rc_print.proofs.decks.push_entry.Goals as goal
 

@@ -1,6 +1,6 @@
 use Rattle.std.proofs.Common.{◌≡◌, List, ◌∷◌, ◌++◌, refl, ap, ◌∙◌}
-use Rattle.rc_model.specs.Tree.{Tree, printed_behind}
-use Rattle.rc_sheet_model.specs.Printing.{binding, packed, keyword, row, named, int_form, test_form, domain_form, effect_form, effect_forms}
+use Rattle.rc_base.specs.Tree.{Tree, printed_behind}
+use Rattle.rc_sheet_spec.specs.Printing.{binding, packed, keyword, row, named, int_form, test_form, domain_form, effect_form, effect_forms}
 use Rattle.rc_ast.specs.Expressions.{int_seen, test_seen, domain_seen}
 use Rattle.rc_ast.specs.Effects.{effect_seen, effects_seen}
 use Rattle.rc_print.specs.Printing.{naming_seen, bound_seen}

@@ -1,6 +1,6 @@
 use Rattle.std.proofs.Common.{◌≡◌, ◌++◌, drop}
-use Rattle.rc_model.specs.Tree.{printed_behind}
-use Rattle.rc_sheet_model.specs.Printing.{packed, effect_forms}
+use Rattle.rc_base.specs.Tree.{printed_behind}
+use Rattle.rc_sheet_spec.specs.Printing.{packed, effect_forms}
 use Rattle.rc_ast.specs.Effects.{effects_seen}
 use Rattle.rc_print.specs.Printing.{naming_seen, bound_seen}
 use Rattle.rc_print.proofs.effects.+effects.Given as goal

@@ -1,6 +1,6 @@
 use Rattle.std.proofs.Common.{[], ◌∷◌, refl}
-use Rattle.rc_model.specs.Tree.{Tree}
-use Rattle.rc_sheet_model.specs.Printing.{atom, row, loc_form}
+use Rattle.rc_base.specs.Tree.{Tree}
+use Rattle.rc_sheet_spec.specs.Printing.{atom, row, loc_form}
 use Rattle.rc_ast.specs.Names.{loc_seen}
 use Rattle.rc_print.specs.Printing.{naming_seen, bound_seen}
 use Rattle.rc_print.proofs.Rows.{opened, with_part, closed}

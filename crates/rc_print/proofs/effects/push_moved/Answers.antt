@@ -1,6 +1,6 @@
-use Rattle.rc_model.specs.Tree.{Tree}
+use Rattle.rc_base.specs.Tree.{Tree}
 use Rattle.rc_deck.proofs.EachLemmas.{on_ok}
-use Rattle.rc_sheet_model.specs.Printing.{coll_form, spot_form}
+use Rattle.rc_sheet_spec.specs.Printing.{coll_form, spot_form}
 use Rattle.rc_ast.specs.Names.{loc_seen}
 use Rattle.rc_ast.specs.Expressions.{coll_seen}
 use Rattle.rc_ast.specs.Effects.{end_seen}

@@ -1,6 +1,6 @@
-use Rattle.rc_model.specs.Tree.{Tree}
+use Rattle.rc_base.specs.Tree.{Tree}
 use Rattle.rc_deck.proofs.EachLemmas.{on_ok}
-use Rattle.rc_sheet_model.specs.Printing.{who_form}
+use Rattle.rc_sheet_spec.specs.Printing.{who_form}
 use Rattle.rc_ast.specs.Names.{who_seen}
 use Rattle.rc_print.specs.Printing.{bound_seen}
 use Rattle.rc_print.proofs.Rows.{opened, with_part, ended}

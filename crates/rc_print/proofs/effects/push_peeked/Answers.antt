@@ -1,6 +1,6 @@
 use Rattle.std.proofs.Common.{[], ◌∷◌, refl}
-use Rattle.rc_model.specs.Tree.{Tree}
-use Rattle.rc_sheet_model.specs.Printing.{keyword, row, who_form, coll_form}
+use Rattle.rc_base.specs.Tree.{Tree}
+use Rattle.rc_sheet_spec.specs.Printing.{keyword, row, who_form, coll_form}
 use Rattle.rc_ast.specs.Names.{who_seen}
 use Rattle.rc_ast.specs.Expressions.{coll_seen}
 use Rattle.rc_print.specs.Printing.{naming_seen, bound_seen}

@@ -1,6 +1,6 @@
 use Rattle.std.proofs.Common.{[], ◌∷◌, refl}
-use Rattle.rc_model.specs.Tree.{Tree}
-use Rattle.rc_sheet_model.specs.Printing.{atom, row, card_form, spot_form}
+use Rattle.rc_base.specs.Tree.{Tree}
+use Rattle.rc_sheet_spec.specs.Printing.{atom, row, card_form, spot_form}
 use Rattle.rc_ast.specs.Names.{loc_seen}
 use Rattle.rc_ast.specs.Expressions.{card_seen}
 use Rattle.rc_ast.specs.Effects.{end_seen}

@@ -1,6 +1,6 @@
 use Rattle.std.proofs.Common.{List, [], ◌∷◌, codes, refl, sym, ap, ap₂, ◌∙◌}
-use Rattle.rc_model.specs.Tree.{Tree}
-use Rattle.rc_sheet_model.specs.Printing.{atom, keyword, row, named, binding, attr_form, card_form, coll_form, int_form, test_form, sides, domain_form}
+use Rattle.rc_base.specs.Tree.{Tree}
+use Rattle.rc_sheet_spec.specs.Printing.{atom, keyword, row, named, binding, attr_form, card_form, coll_form, int_form, test_form, sides, domain_form}
 use Rattle.rc_ast.specs.declared.expressions.IntExpr.{IntExpr}
 use Rattle.rc_ast.specs.Expressions.{card_seen, coll_seen, int_seen, test_seen, domain_seen}
 use Rattle.rc_print.specs.Printing.{naming_seen, bound_seen}

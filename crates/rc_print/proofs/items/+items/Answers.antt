@@ -1,6 +1,6 @@
 use Rattle.std.proofs.Common.{List, []}
-use Rattle.rc_model.specs.Tree.{Tree}
-use Rattle.rc_sheet_model.specs.Printing.{one, test_form, class_form, item_forms}
+use Rattle.rc_base.specs.Tree.{Tree}
+use Rattle.rc_sheet_spec.specs.Printing.{one, test_form, class_form, item_forms}
 use Rattle.rc_ast.specs.Expressions.{test_seen}
 use Rattle.rc_ast.specs.Items.{items_seen}
 use Rattle.rc_print.specs.Printing.{naming_seen}

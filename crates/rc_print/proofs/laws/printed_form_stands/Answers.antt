@@ -1,4 +1,4 @@
-use Rattle.rc_model.specs.Limits.{most_open}
+use Rattle.rc_base.specs.Limits.{most_open}
 use Rattle.rc_print.proofs.CopiedSheet.{sheet_copied}
 use Rattle.rc_print.proofs.laws.printed_form_stands.Goals as goal
 

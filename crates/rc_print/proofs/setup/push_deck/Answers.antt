@@ -1,7 +1,7 @@
 use Rattle.std.proofs.Common.{◌≡◌, ℕ, List, [], ◌∷◌, ◌++◌, codes, slice_index_or, ap₂, ◌∙◌, append_assoc, append-nil}
-use Rattle.rc_model.specs.Tree.{printed, printed_behind}
+use Rattle.rc_base.specs.Tree.{printed, printed_behind}
 use Rattle.rc_deck.specs.Tree.{groups_in}
-use Rattle.rc_sheet_model.specs.Printing.{packed, kind_form, group_forms}
+use Rattle.rc_sheet_spec.specs.Printing.{packed, kind_form, group_forms}
 use Rattle.rc_print.specs.Printing.{naming_seen}
 use Rattle.rc_print.proofs.Added.{start, then, last}
 use Rattle.rc_print.proofs.setup.push_deck.Goals as goal

@@ -1,6 +1,6 @@
 use Rattle.std.proofs.Common.{◌≡◌, ◌++◌, map, drop}
-use Rattle.rc_model.specs.Tree.{printed_behind}
-use Rattle.rc_sheet_model.specs.Printing.{packed, deck_form}
+use Rattle.rc_base.specs.Tree.{printed_behind}
+use Rattle.rc_sheet_spec.specs.Printing.{packed, deck_form}
 use Rattle.rc_ast.specs.Sheet.{deck_line_seen}
 use Rattle.rc_print.specs.Printing.{naming_seen}
 use Rattle.rc_print.proofs.setup.push_decks.Given as goal

@@ -1,8 +1,8 @@
 use Rattle.std.proofs.Common.{◌≡◌, ℕ, ◌+◌, List, [], ◌∷◌, ◌++◌, map, drop, sym, ap, ◌∙◌, append_assoc, append-nil}
 use Rattle.std.proofs.lemmas.List.{at_drop_more, drop_all}
-use Rattle.rc_model.specs.Tree.{Tree, printed, printed_behind}
+use Rattle.rc_base.specs.Tree.{Tree, printed, printed_behind}
 use Rattle.rc_deck.specs.Points.{entries_of}
-use Rattle.rc_sheet_model.specs.Printing.{packed, map_form}
+use Rattle.rc_sheet_spec.specs.Printing.{packed, map_form}
 use Rattle.rc_print.specs.Printing.{naming_seen}
 use Rattle.rc_print.proofs.Added.{start, then}
 use Rattle.rc_print.proofs.MapLemmas.{maps_from, numbered_maps}

@@ -1,7 +1,7 @@
 use Rattle.std.proofs.Common.{◌≡◌, ◌++◌, map, drop}
-use Rattle.rc_model.specs.Tree.{printed_behind}
+use Rattle.rc_base.specs.Tree.{printed_behind}
 use Rattle.rc_deck.specs.Points.{entries_of}
-use Rattle.rc_sheet_model.specs.Printing.{packed}
+use Rattle.rc_sheet_spec.specs.Printing.{packed}
 use Rattle.rc_print.specs.Printing.{naming_seen}
 use Rattle.rc_print.proofs.MapLemmas.{maps_from}
 use Rattle.rc_print.proofs.setup.push_maps.Given as goal

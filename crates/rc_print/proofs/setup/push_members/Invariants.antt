@@ -1,6 +1,6 @@
 use Rattle.std.proofs.Common.{◌≡◌, ◌++◌, map, drop, pos}
-use Rattle.rc_model.specs.Tree.{printed_behind}
-use Rattle.rc_sheet_model.specs.Printing.{packed, number_form}
+use Rattle.rc_base.specs.Tree.{printed_behind}
+use Rattle.rc_sheet_spec.specs.Printing.{packed, number_form}
 use Rattle.rc_print.proofs.setup.push_members.Given as goal
 
 -- what is printed and what is left are the whole

@@ -1,7 +1,7 @@
 use Rattle.std.proofs.Common.{◌≡◌, ℕ, List, [], ◌∷◌, ◌++◌, map, codes, slice_index_or, ap, ◌∙◌, append_assoc, append-nil}
-use Rattle.rc_model.specs.Tree.{printed_parts}
+use Rattle.rc_base.specs.Tree.{printed_parts}
 use Rattle.rc_deck.specs.Points.{entry_of}
-use Rattle.rc_sheet_model.specs.Printing.{packed, entry_form}
+use Rattle.rc_sheet_spec.specs.Printing.{packed, entry_form}
 use Rattle.rc_print.specs.Printing.{naming_seen}
 use Rattle.rc_print.proofs.Added.{start, then, last}
 use Rattle.rc_print.proofs.setup.push_points.Goals as goal

@@ -1,8 +1,8 @@
 use Rattle.std.proofs.Common.{◌≡◌, [], ◌++◌, map, drop, sym, ap, ◌∙◌, append_assoc, append-nil, arith}
 use Rattle.std.proofs.lemmas.List.{drop_all}
-use Rattle.rc_model.specs.Tree.{printed_behind}
+use Rattle.rc_base.specs.Tree.{printed_behind}
 use Rattle.rc_deck.proofs.EachLemmas.{on_ok}
-use Rattle.rc_sheet_model.specs.Printing.{packed, team_form}
+use Rattle.rc_sheet_spec.specs.Printing.{packed, team_form}
 use Rattle.rc_print.proofs.setup.push_teams.Goals as goal
 
 pub returns : goal.returns

@@ -1,6 +1,6 @@
 use Rattle.std.proofs.Common.{◌≡◌, ℕ, List, [], ◌∷◌, ◌++◌, codes, sym, ap, ◌∙◌, append_assoc, append-nil}
-use Rattle.rc_model.specs.Tree.{Tree, printed, printed_behind}
-use Rattle.rc_sheet_model.specs.Printing.{packed, item_forms, setup_forms, scoring_form}
+use Rattle.rc_base.specs.Tree.{Tree, printed, printed_behind}
+use Rattle.rc_sheet_spec.specs.Printing.{packed, item_forms, setup_forms, scoring_form}
 use Rattle.rc_ast.specs.Items.{items_seen}
 use Rattle.rc_ast.specs.Sheet.{sheet_seen}
 use Rattle.rc_print.specs.Printing.{naming_seen}

@@ -1,9 +1,9 @@
 use Rattle.std.proofs.Common.{◌≡◌, ℕ, List, [], ◌∷◌, ◌++◌, map, option_map, OnOk, sym, ap, ◌∙◌, append_assoc}
-use Rattle.rc_model.specs.Tree.{Tree, printed, printed_behind}
+use Rattle.rc_base.specs.Tree.{Tree, printed, printed_behind}
 use Rattle.rc_deck.specs.Points.{entries_of}
 use Rattle.rc_deck.proofs.EachLemmas.{on_ok}
-use Rattle.rc_sheet_model.specs.StandsSetup.{numbered}
-use Rattle.rc_sheet_model.specs.Printing.{packed, players_form, teams_forms, deck_form, map_form}
+use Rattle.rc_sheet_spec.specs.StandsSetup.{numbered}
+use Rattle.rc_sheet_spec.specs.Printing.{packed, players_form, teams_forms, deck_form, map_form}
 use Rattle.rc_ast.specs.Sheet.{teams_seen, deck_line_seen}
 use Rattle.rc_print.specs.Printing.{naming_seen}
 use Rattle.rc_print.proofs.Added.{start, then, last}

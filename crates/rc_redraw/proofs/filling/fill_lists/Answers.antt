@@ -1,6 +1,6 @@
 use Rattle.std.proofs.Common.{◌≡◌, ◌+◌, ◌-◌, ◌∷◌, ◌++◌, [], ◌∙◌, sym, ap, ap₂, length, map, drop, ◌≤◌, ◌<◌, rules, arith}
 use Rattle.std.proofs.lemmas.List.{length-take, length-drop, take_rest, map-append, append_assoc}
-use Rattle.rc_play_model.specs.Redraw.{mems_of, faces_at, hidden_at, ids_at, filled}
+use Rattle.rc_play_spec.specs.Redraw.{mems_of, faces_at, hidden_at, ids_at, filled}
 use Rattle.rc_view.specs.Seen.{sight_seen}
 use Rattle.rc_redraw.proofs.FillSteps.{filled-more, seen-more, hidden-more}
 use Rattle.rc_redraw.proofs.filling.fill_lists.Goals as goal

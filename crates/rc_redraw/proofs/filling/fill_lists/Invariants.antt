@@ -1,5 +1,5 @@
 use Rattle.std.proofs.Common.{◌≡◌, ◌+◌, ◌++◌, length, map, drop}
-use Rattle.rc_play_model.specs.Redraw.{mems_of, seen_faces, hidden_count, filled}
+use Rattle.rc_play_spec.specs.Redraw.{mems_of, seen_faces, hidden_count, filled}
 use Rattle.rc_view.specs.Seen.{sight_seen}
 use Rattle.rc_redraw.proofs.filling.fill_lists.Given as goal
 

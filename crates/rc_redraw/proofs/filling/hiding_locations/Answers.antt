@@ -1,7 +1,7 @@
 use Rattle.std.proofs.Common.{◌+◌, ◌++◌, ◌∷◌, [], if◌then◌else◌, drop, map, sym, ap, ◌∙◌, arith, append_assoc}
 use Rattle.std.proofs.lemmas.Bool.{le-ltb}
 use Rattle.std.proofs.lemmas.Bool.Decides.{Decides-ltb}
-use Rattle.rc_play_model.specs.Redraw.{mems_of, hidden_at}
+use Rattle.rc_play_spec.specs.Redraw.{mems_of, hidden_at}
 use Rattle.rc_view.specs.Seen.{sight_seen}
 use Rattle.rc_redraw.specs.Hiding.{hiding_from}
 use Rattle.rc_redraw.proofs.FillSteps.{hiding-more}

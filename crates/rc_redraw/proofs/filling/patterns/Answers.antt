@@ -1,6 +1,6 @@
 use Rattle.std.proofs.Common.{◌≡◌, ◌+◌, ◌-◌, ◌++◌, ◌∙◌, sym, ap, ap₂, length, map, drop, ◌≤◌, ◌<◌, rules, arith}
 use Rattle.std.proofs.lemmas.List.{length-take, length-drop, take_rest, append_assoc}
-use Rattle.rc_play_model.specs.Redraw.{mems_of, faces_at}
+use Rattle.rc_play_spec.specs.Redraw.{mems_of, faces_at}
 use Rattle.rc_view.specs.Seen.{sight_seen}
 use Rattle.rc_redraw.specs.Hiding.{pattern_of, patterns}
 use Rattle.rc_redraw.proofs.FillSteps.{patterns-more, seen-more}

@@ -1,5 +1,5 @@
 use Rattle.std.proofs.Common.{◌≡◌, ◌≤◌, length}
-use Rattle.rc_play_model.specs.Redraw.{others}
+use Rattle.rc_play_spec.specs.Redraw.{others}
 use Rattle.rc_redraw.proofs.hidden.left_by.Given as goal
 
 abbrev pub invariant-loop-id : goal.invariant-loop-id

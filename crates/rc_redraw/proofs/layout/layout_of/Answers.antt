@@ -1,5 +1,5 @@
 use Rattle.std.proofs.Common.{[], ◌∙◌, sym, ap, length}
-use Rattle.rc_play_model.specs.Redraw.{seen_ids, unused}
+use Rattle.rc_play_spec.specs.Redraw.{seen_ids, unused}
 use Rattle.rc_redraw.proofs.layout.layout_of.Goals as goal
 
 pub fill_lists-requires-clause-seen : goal.fill_lists-requires-clause-seen

@@ -1,6 +1,6 @@
 use Rattle.std.proofs.Common.{rules, ◌≡◌, ◌<◌, ◌≤◌, length, map, ◌+◌, [], ◌∷◌, sym, ap, ap₂, ◌∙◌, drop, replicate, arith}
 use Rattle.std.proofs.lemmas.List.{length-map, drop_all}
-use Rattle.rc_play_model.specs.Redraw.{mems_of, faces_at, peeked_at, peeked, seen_faces}
+use Rattle.rc_play_spec.specs.Redraw.{mems_of, faces_at, peeked_at, peeked, seen_faces}
 use Rattle.rc_table.specs.Marks.{seats_in}
 use Rattle.rc_table.proofs.WhereaboutEdits.{refilled}
 use Rattle.rc_redraw.specs.Marked.{marked_by}

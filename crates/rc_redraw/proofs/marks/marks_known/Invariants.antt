@@ -1,5 +1,5 @@
 use Rattle.std.proofs.Common.{◌≡◌, ◌+◌, length, map, drop, replicate}
-use Rattle.rc_play_model.specs.Redraw.{mems_of, seen_faces, peeked}
+use Rattle.rc_play_spec.specs.Redraw.{mems_of, seen_faces, peeked}
 use Rattle.rc_view.specs.Seen.{sight_seen}
 use Rattle.rc_redraw.specs.Marked.{marked_by}
 use Rattle.rc_redraw.proofs.marks.marks_known.Given as goal

@@ -1,5 +1,5 @@
 use Rattle.std.proofs.Common.{◌≡◌, ◌+◌, ◌≤◌, drop}
-use Rattle.rc_play_model.specs.Redraw.{unknown}
+use Rattle.rc_play_spec.specs.Redraw.{unknown}
 use Rattle.rc_redraw.proofs.places.count_unknown.Given as goal
 
 abbrev pub invariant-loop-at : goal.invariant-loop-at

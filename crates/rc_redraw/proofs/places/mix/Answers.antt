@@ -1,6 +1,6 @@
 use Rattle.std.proofs.Common.{◌≡◌, length, arith}
 use Rattle.std.proofs.lemmas.List.{length-take}
-use Rattle.rc_play_model.specs.Redraw.{known_faces}
+use Rattle.rc_play_spec.specs.Redraw.{known_faces}
 use Rattle.rc_redraw.proofs.NoneKnown.{all_unknown}
 use Rattle.rc_redraw.proofs.places.mix.Goals as goal
 

@@ -1,5 +1,5 @@
 use Rattle.std.proofs.Common.{◌≡◌, ◌+◌, ◌++◌, ◌≤◌, length, drop}
-use Rattle.rc_play_model.specs.Redraw.{known_faces, unknown, mixed}
+use Rattle.rc_play_spec.specs.Redraw.{known_faces, unknown, mixed}
 use Rattle.rc_redraw.proofs.places.mix.Given as goal
 
 abbrev pub invariant-loop-at : goal.invariant-loop-at

@@ -1,5 +1,5 @@
 use Rattle.std.proofs.Common.{◌≡◌, ◌++◌, drop}
-use Rattle.rc_play_model.specs.Redraw.{known_faces}
+use Rattle.rc_play_spec.specs.Redraw.{known_faces}
 use Rattle.rc_redraw.proofs.places.push_known.Given as goal
 
 abbrev pub invariant-loop-at : goal.invariant-loop-at

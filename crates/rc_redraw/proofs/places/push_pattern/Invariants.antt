@@ -1,5 +1,5 @@
 use Rattle.std.proofs.Common.{◌≡◌, ◌+◌, ◌++◌, ◌≤◌, length, drop}
-use Rattle.rc_play_model.specs.Redraw.{known_faces}
+use Rattle.rc_play_spec.specs.Redraw.{known_faces}
 use Rattle.rc_redraw.specs.Hiding.{pattern_at}
 use Rattle.rc_redraw.proofs.places.push_pattern.Given as goal
 

@@ -1,5 +1,5 @@
 use Rattle.std.proofs.Common.{◌+◌, ◌++◌, ◌∙◌, sym, ap, map, drop, append_assoc, arith}
-use Rattle.rc_play_model.specs.Redraw.{mems_of, faces_at, seen_faces}
+use Rattle.rc_play_spec.specs.Redraw.{mems_of, faces_at, seen_faces}
 use Rattle.rc_view.specs.Seen.{sight_seen}
 use Rattle.rc_redraw.proofs.FillSteps.{faces-more}
 use Rattle.rc_redraw.proofs.seen.faces_seen.Goals as goal

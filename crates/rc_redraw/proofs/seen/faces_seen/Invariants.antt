@@ -1,5 +1,5 @@
 use Rattle.std.proofs.Common.{◌≡◌, ◌++◌, map, drop}
-use Rattle.rc_play_model.specs.Redraw.{mems_of, seen_faces}
+use Rattle.rc_play_spec.specs.Redraw.{mems_of, seen_faces}
 use Rattle.rc_view.specs.Seen.{sight_seen}
 use Rattle.rc_redraw.proofs.seen.faces_seen.Given as goal
 

@@ -2,8 +2,8 @@ use Rattle.std.proofs.Common.{◌∷◌, ◌++◌, [], ◌∙◌, sym, ap, ap₂
 use Rattle.std.specs.Prelude.{slice_index, ◌==◌}
 use Rattle.std.specs.List.{list_any}
 use Rattle.std.proofs.lemmas.List.{take_more, length-set}
-use Rattle.rc_play_model.specs.Redraw.{seen_ids}
-use Rattle.rc_play_model.specs.Smallest.{IsSmallestUnused}
+use Rattle.rc_play_spec.specs.Redraw.{seen_ids}
+use Rattle.rc_play_spec.specs.Smallest.{IsSmallestUnused}
 use Rattle.rc_table.proofs.FaceNumbers.{number_le}
 use Rattle.rc_redraw.proofs.FaceSteps.{on-used, on-other, found-it, marks-more}
 use Rattle.rc_redraw.proofs.seen.taken_for.Goals as goal

@@ -1,7 +1,7 @@
 use Rattle.std.proofs.Common.{◌≡◌, ◌≤◌, [], take, ◌-◌}
 use Rattle.std.specs.Prelude.{slice_index}
-use Rattle.rc_play_model.specs.Redraw.{seen_ids}
-use Rattle.rc_play_model.specs.Smallest.{IsSmallestUnused}
+use Rattle.rc_play_spec.specs.Redraw.{seen_ids}
+use Rattle.rc_play_spec.specs.Smallest.{IsSmallestUnused}
 use Rattle.rc_redraw.specs.Taken.{Marks}
 use Rattle.rc_redraw.proofs.seen.taken_for.Given as goal
 

@@ -1,6 +1,6 @@
 use Rattle.std.proofs.Common.{◌≡◌, IfOk, subst}
 use Rattle.rc_rules.specs.Plan.{plan_seen}
-use Rattle.rc_search_model.specs.Rivals.{rival_house_text}
+use Rattle.rc_play_spec.specs.Rivals.{rival_house_text}
 use Rattle.rc_search.specs.Rival.{rival_seen}
 use Rattle.rc_rivals.proofs.plays.rivals_of.Goals as goal
 

@@ -1,7 +1,7 @@
 use Rattle.rc_rivals.proofs.plays.rivals_of.Given as goal
 
-abbrev pub ghosts-told : goal.ghosts-told
-ghosts-told a =
+abbrev pub ghosts-write_rivals : goal.ghosts-write_rivals
+ghosts-write_rivals a =
     record {
       about = a.about.now.value;
       capacity = 1024;

@@ -1,5 +1,5 @@
 use Rattle.std.proofs.Common.{ap, ◌∙◌}
-use Rattle.rc_play_model.specs.Draws.{key32}
+use Rattle.rc_play_spec.specs.Draws.{key32}
 use Rattle.rc_redraw.specs.Redraws.{redealt}
 use Rattle.rc_rollout.proofs.totals.deal_round.Goals as goal
 

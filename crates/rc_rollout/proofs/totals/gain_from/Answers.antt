@@ -1,5 +1,5 @@
 use Rattle.std.proofs.Common.{length, arith, sym, ap, subst, ◌∙◌}
-use Rattle.rc_play_model.specs.Step.{Config}
+use Rattle.rc_play_spec.specs.Step.{Config}
 use Rattle.rc_rules.specs.Machine.{StopsAtDecision, menu_here}
 use Rattle.rc_redraw.specs.Asking.{ask_seen}
 use Rattle.rc_rollout.proofs.HomeLemmas.{home_stays}

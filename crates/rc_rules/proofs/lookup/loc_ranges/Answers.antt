@@ -1,7 +1,7 @@
 use Rattle.std.proofs.Common.{◌<◌, length, map, ap, ◌∙◌, arith}
 use Rattle.std.proofs.lemmas.List.{length-map, map-append}
-use Rattle.rc_sheet_model.specs.Sheet.{LocName}
-use Rattle.rc_sheet_model.specs.WellFormed.{owner_count}
+use Rattle.rc_sheet_spec.specs.Sheet.{LocName}
+use Rattle.rc_sheet_spec.specs.WellFormed.{owner_count}
 use Rattle.rc_ast.specs.Names.{loc_name_seen}
 use Rattle.rc_ast.specs.Sheet.{sheet_seen}
 use Rattle.rc_rules.specs.Lookup.{range_seen, ranges_seen, ranges_from}

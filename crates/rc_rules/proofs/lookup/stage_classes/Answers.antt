@@ -1,5 +1,5 @@
 use Rattle.std.proofs.Common.{◌++◌, ◌∷◌, [], ap, sym, ◌∙◌}
-use Rattle.rc_play_model.specs.Owners.{classes_in}
+use Rattle.rc_play_spec.specs.Owners.{classes_in}
 use Rattle.rc_ast.specs.Sheet.{sheet_seen}
 use Rattle.rc_rules.proofs.ClassLemmas.{one_more, one_within}
 use Rattle.rc_rules.proofs.lookup.stage_classes.Goals as goal

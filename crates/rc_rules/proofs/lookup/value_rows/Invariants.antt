@@ -1,5 +1,5 @@
 use Rattle.std.proofs.Common.{◌≡◌, map}
-use Rattle.rc_model.specs.Numbers.{below}
+use Rattle.rc_base.specs.Numbers.{below}
 use Rattle.rc_rules.specs.Lookup.{rows_seen, value_row}
 use Rattle.rc_rules.proofs.lookup.value_rows.Given as goal
 

@@ -1,5 +1,5 @@
 use Rattle.std.proofs.Common.{[], arith}
-use Rattle.rc_model.specs.Deck.{Face, value_at}
+use Rattle.rc_base.specs.Deck.{Face, value_at}
 use Rattle.rc_rules.proofs.Rows.{row_more}
 use Rattle.rc_rules.proofs.lookup.values_of.Goals as goal
 

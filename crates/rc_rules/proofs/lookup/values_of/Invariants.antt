@@ -1,5 +1,5 @@
 use Rattle.std.proofs.Common.{◌≡◌, map, take}
-use Rattle.rc_model.specs.Deck.{value_at}
+use Rattle.rc_base.specs.Deck.{value_at}
 use Rattle.rc_rules.proofs.lookup.values_of.Given as goal
 
 abbrev pub invariant-loop-id : goal.invariant-loop-id

@@ -1,5 +1,5 @@
 use Rattle.std.proofs.Common.{sym, ap, ◌∙◌}
-use Rattle.rc_model.specs.Deck.{points_of}
+use Rattle.rc_base.specs.Deck.{points_of}
 use Rattle.rc_deck.specs.Points.{entries_of}
 use Rattle.rc_rules.proofs.Rows.{no_points}
 use Rattle.rc_rules.proofs.lookup.worth_of.Goals as goal

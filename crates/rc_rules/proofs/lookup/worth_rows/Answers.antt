@@ -1,7 +1,7 @@
 use Rattle.std.proofs.Common.{[], ◌<◌, length, map, ap, ◌∙◌, arith}
 use Rattle.std.specs.Prelude.{All}
 use Rattle.std.proofs.lemmas.List.{map-append, length-map, get_or_read}
-use Rattle.rc_model.specs.Clamp.{IsWithinClamp}
+use Rattle.rc_base.specs.Clamp.{IsWithinClamp}
 use Rattle.rc_deck.specs.Points.{entries_of}
 use Rattle.rc_rules.specs.Lookup.{rows_seen, worth_row}
 use Rattle.rc_rules.proofs.Elements.{each_here, map_here}

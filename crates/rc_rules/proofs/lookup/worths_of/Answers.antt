@@ -1,6 +1,6 @@
 use Rattle.std.proofs.Common.{[], arith, ◌∙◌, rules, SFits, w64}
 use Rattle.std.proofs.lemmas.Int.{to_z-of_z}
-use Rattle.rc_model.specs.Deck.{points_of}
+use Rattle.rc_base.specs.Deck.{points_of}
 use Rattle.rc_deck.specs.Points.{entries_of}
 use Rattle.rc_rules.proofs.Rows.{row_more}
 use Rattle.rc_rules.proofs.lookup.worths_of.Goals as goal

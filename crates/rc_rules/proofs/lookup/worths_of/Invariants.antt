@@ -1,5 +1,5 @@
 use Rattle.std.proofs.Common.{◌≡◌, map, take}
-use Rattle.rc_model.specs.Deck.{points_of}
+use Rattle.rc_base.specs.Deck.{points_of}
 use Rattle.rc_deck.specs.Points.{entries_of}
 use Rattle.rc_rules.proofs.lookup.worths_of.Given as goal
 

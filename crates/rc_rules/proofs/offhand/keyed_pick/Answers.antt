@@ -1,5 +1,5 @@
 use Rattle.std.proofs.Common.{ap, ◌∙◌}
-use Rattle.rc_play_model.specs.Draws.{key32, pick_of}
+use Rattle.rc_play_spec.specs.Draws.{key32, pick_of}
 use Rattle.rc_rules.proofs.offhand.keyed_pick.Goals as goal
 
 pub returns-clause-item : goal.returns-clause-item

@@ -1,5 +1,5 @@
 use Rattle.std.proofs.Common.{◌+◌, ◌++◌, ◌∷◌, [], ap, ap₂, sym, ◌∙◌}
-use Rattle.rc_play_model.specs.Scores as play
+use Rattle.rc_play_spec.specs.Scores as play
 use Rattle.rc_ast.specs.Sheet.{sheet_seen}
 use Rattle.rc_rules.proofs.PointLemmas.{mapped_push}
 use Rattle.rc_rules.proofs.points.rank_points.Goals as goal

@@ -1,8 +1,8 @@
 use Rattle.std.proofs.Common.{◌≡◌, ◌*◌, ◌≤◌}
 use Rattle.std.specs.Prelude.{sum_by}
-use Rattle.rc_model.specs.Numbers.{below}
-use Rattle.rc_play_model.specs.Scores as play
-use Rattle.rc_play_model.specs.Shape.{team_in}
+use Rattle.rc_base.specs.Numbers.{below}
+use Rattle.rc_play_spec.specs.Scores as play
+use Rattle.rc_play_spec.specs.Shape.{team_in}
 use Rattle.rc_ast.specs.Sheet.{sheet_seen}
 use Rattle.rc_rules.proofs.points.rank_points_of.Given as goal
 

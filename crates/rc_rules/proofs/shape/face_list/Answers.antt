@@ -2,7 +2,7 @@ use Rattle.std.proofs.Common.{◌++◌, ap₂, sym, ◌∙◌}
 use Rattle.rc_deck.specs.Tree.{groups_of}
 use Rattle.rc_deck.specs.Product.{faces_of_groups}
 use Rattle.rc_deck.proofs.PathLaws.{AreFaces-faces_of_groups}
-use Rattle.rc_sheet_model.specs.Sheet.{DeckLine}
+use Rattle.rc_sheet_spec.specs.Sheet.{DeckLine}
 use Rattle.rc_ast.specs.Sheet.{deck_line_seen}
 use Rattle.rc_rules.proofs.ShapeLemmas.{joined_more}
 use Rattle.rc_rules.proofs.shape.face_list.Goals as goal

@@ -1,9 +1,9 @@
 use Rattle.std.proofs.Common.{◌++◌, arith, ap, sym, ◌∙◌}
 use Rattle.std.specs.Prelude.{sum_by, map}
-use Rattle.rc_model.specs.Deck.{face_count}
-use Rattle.rc_sheet_model.specs.Sheet.{DeckLine}
+use Rattle.rc_base.specs.Deck.{face_count}
+use Rattle.rc_sheet_spec.specs.Sheet.{DeckLine}
 use Rattle.rc_ast.specs.Sheet.{sheet_seen, deck_line_seen}
-use Rattle.rc_play_model.specs.Shape as shapes
+use Rattle.rc_play_spec.specs.Shape as shapes
 use Rattle.rc_rules.proofs.ShapeLemmas.{joined_more, part_within}
 use Rattle.rc_rules.proofs.shape.home_list.Goals as goal
 

@@ -1,5 +1,5 @@
 use Rattle.std.proofs.Common.{◌≡◌, map, flat_map, take}
-use Rattle.rc_play_model.specs.Shape as play
+use Rattle.rc_play_spec.specs.Shape as play
 use Rattle.rc_ast.specs.Sheet.{sheet_seen, deck_line_seen}
 use Rattle.rc_rules.proofs.shape.home_list.Given as goal
 

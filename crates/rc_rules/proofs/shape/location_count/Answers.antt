@@ -1,6 +1,6 @@
 use Rattle.std.proofs.Common.{arith}
-use Rattle.rc_sheet_model.specs.Sheet.{LocName, game_class, vloc}
-use Rattle.rc_sheet_model.specs.WellFormed.{owner_count}
+use Rattle.rc_sheet_spec.specs.Sheet.{LocName, game_class, vloc}
+use Rattle.rc_sheet_spec.specs.WellFormed.{owner_count}
 use Rattle.rc_ast.specs.Sheet.{sheet_seen}
 use Rattle.rc_ast.specs.Names.{loc_name_seen}
 use Rattle.rc_rules.proofs.ShapeLemmas.{part_at}

@@ -1,7 +1,7 @@
 use Rattle.std.proofs.Common.{map, ap, arith}
 use Rattle.std.specs.Prelude.{sum_by}
-use Rattle.rc_sheet_model.specs.Sheet.{NumName, game_class}
-use Rattle.rc_sheet_model.specs.WellFormed.{owner_count}
+use Rattle.rc_sheet_spec.specs.Sheet.{NumName, game_class}
+use Rattle.rc_sheet_spec.specs.WellFormed.{owner_count}
 use Rattle.rc_ast.specs.Sheet.{sheet_seen}
 use Rattle.rc_ast.specs.Names.{num_name_seen}
 use Rattle.rc_rules.proofs.ShapeLemmas.{part_at}

@@ -1,6 +1,6 @@
 use Rattle.std.proofs.Common.{◌≡◌, map, take}
 use Rattle.std.specs.Prelude.{sum_by}
-use Rattle.rc_sheet_model.specs.WellFormed.{owner_count}
+use Rattle.rc_sheet_spec.specs.WellFormed.{owner_count}
 use Rattle.rc_ast.specs.Sheet.{sheet_seen}
 use Rattle.rc_ast.specs.Names.{num_name_seen}
 use Rattle.rc_rules.proofs.shape.number_count.Given as goal

@@ -1,5 +1,5 @@
 use Rattle.std.proofs.Common.{◌≡◌, map, flat_map, take}
-use Rattle.rc_play_model.specs.Shape as play
+use Rattle.rc_play_spec.specs.Shape as play
 use Rattle.rc_ast.specs.Sheet.{sheet_seen}
 use Rattle.rc_ast.specs.Names.{loc_name_seen}
 use Rattle.rc_table.specs.Places.{place_seen}

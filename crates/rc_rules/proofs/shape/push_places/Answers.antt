@@ -1,8 +1,8 @@
 use Rattle.std.proofs.Common.{◌≡◌, ℕ, ◌++◌, ◌∷◌, [], map, ap, ap₂, sym, ◌∙◌, arith, append_assoc}
 use Rattle.std.proofs.lemmas.List.{map-append}
 use Rattle.rc_ast.specs.Sheet.{sheet_seen}
-use Rattle.rc_play_model.specs.Shape.{Place}
-use Rattle.rc_model.specs.Numbers.{below}
+use Rattle.rc_play_spec.specs.Shape.{Place}
+use Rattle.rc_base.specs.Numbers.{below}
 use Rattle.rc_table.specs.declared.place.Place.{Place as TablePlace}
 use Rattle.rc_table.specs.Places.{place_seen}
 use Rattle.rc_rules.proofs.ShapeLemmas.{owners_few}

@@ -1,5 +1,5 @@
 use Rattle.std.proofs.Common.{◌≡◌, ◌++◌, map}
-use Rattle.rc_model.specs.Numbers.{below}
+use Rattle.rc_base.specs.Numbers.{below}
 use Rattle.rc_table.specs.Places.{place_seen}
 use Rattle.rc_rules.proofs.shape.push_places.Given as goal
 

@@ -1,5 +1,5 @@
 use Rattle.std.proofs.Common.{◌++◌, ◌∷◌, [], ap₂, sym, ◌∙◌, arith}
-use Rattle.rc_play_model.specs.Shape as play
+use Rattle.rc_play_spec.specs.Shape as play
 use Rattle.rc_ast.specs.Sheet.{sheet_seen}
 use Rattle.rc_rules.proofs.PointLemmas.{mapped_push}
 use Rattle.rc_rules.proofs.ShapeLemmas.{team_few}

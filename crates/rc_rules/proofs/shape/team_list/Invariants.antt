@@ -1,6 +1,6 @@
 use Rattle.std.proofs.Common.{◌≡◌, map}
-use Rattle.rc_model.specs.Numbers.{below}
-use Rattle.rc_play_model.specs.Shape as play
+use Rattle.rc_base.specs.Numbers.{below}
+use Rattle.rc_play_spec.specs.Shape as play
 use Rattle.rc_ast.specs.Sheet.{sheet_seen}
 use Rattle.rc_rules.proofs.shape.team_list.Given as goal
 

@@ -1,5 +1,5 @@
 use Rattle.std.proofs.Common.{◌+◌, drop, ap, sym, ◌∙◌}
-use Rattle.rc_play_model.specs.Owners.{classes_in}
+use Rattle.rc_play_spec.specs.Owners.{classes_in}
 use Rattle.rc_ast.specs.Items.{items_seen}
 use Rattle.rc_rules.specs.Stages.{passed}
 use Rattle.rc_rules.proofs.StageLemmas.{passed_body, passed_drop, passed_then}

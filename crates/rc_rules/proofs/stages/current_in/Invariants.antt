@@ -1,5 +1,5 @@
 use Rattle.std.proofs.Common.{◌≡◌, length}
-use Rattle.rc_play_model.specs.Owners as owners
+use Rattle.rc_play_spec.specs.Owners as owners
 use Rattle.rc_rules.specs.Control.{frames_seen}
 use Rattle.rc_rules.proofs.stages.current_in.Given as goal
 

@@ -1,5 +1,5 @@
 use Rattle.std.proofs.Common.{true, false, ap, arith}
-use Rattle.rc_play_model.specs.Shape as shape
+use Rattle.rc_play_spec.specs.Shape as shape
 use Rattle.rc_rules.proofs.TeamLemmas.{among, team_among_drop, team_items}
 use Rattle.rc_rules.proofs.teams.team_among.Goals as goal
 

@@ -1,5 +1,5 @@
 use Rattle.std.proofs.Common.{◌≡◌, ◌+◌, map, drop}
-use Rattle.rc_play_model.specs.Shape as shape
+use Rattle.rc_play_spec.specs.Shape as shape
 use Rattle.rc_rules.proofs.teams.team_among.Given as goal
 
 -- the player is in none of the teams before this one

@@ -1,9 +1,9 @@
 use Rattle.std.proofs.Common.{map, ap, ◌∙◌}
-use Rattle.rc_model.specs.Numbers.{below}
-use Rattle.rc_sheet_model.specs.Sheet.{Sheet}
+use Rattle.rc_base.specs.Numbers.{below}
+use Rattle.rc_sheet_spec.specs.Sheet.{Sheet}
 use Rattle.rc_ast.specs.Sheet.{sheet_seen}
-use Rattle.rc_play_model.specs.About.{About}
-use Rattle.rc_play_model.specs.Scores.{scores_of, rank_points}
+use Rattle.rc_play_spec.specs.About.{About}
+use Rattle.rc_play_spec.specs.Scores.{scores_of, rank_points}
 use Rattle.rc_search.proofs.LookLemmas.{all_scored}
 use Rattle.rc_search.proofs.plain.all_points.Goals as goal
 

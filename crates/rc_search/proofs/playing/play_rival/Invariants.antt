@@ -1,12 +1,12 @@
 use Rattle.std.proofs.Common.{◌≡◌, ℕ, ◌-◌, Option}
-use Rattle.rc_play_model.specs.About.{About}
+use Rattle.rc_play_spec.specs.About.{About}
 use Rattle.rc_rules.specs.Plan.{plan_seen}
 use Rattle.rc_match.specs.Asks.{decisions_in}
 use Rattle.rc_match.specs.Lane.{ready, lane_seen, phase_seen}
 use Rattle.rc_match.specs.Way.{BelongsTo}
 use Rattle.rc_match.specs.Sound.{IsSoundBy}
 use Rattle.rc_match.proofs.PlayLemmas.{decided_in}
-use Rattle.rc_search_model.specs.Rivals.{rival_play}
+use Rattle.rc_play_spec.specs.Rivals.{rival_play}
 use Rattle.rc_search.specs.Rival.{rival_seen}
 use Rattle.rc_search.proofs.SoundLemmas.{choices}
 use Rattle.rc_search.proofs.playing.play_rival.Given as goal

@@ -1,8 +1,8 @@
 use Rattle.std.proofs.Common.{sym, ap, ◌∙◌}
-use Rattle.rc_play_model.specs.Strategy.{first_largest}
+use Rattle.rc_play_spec.specs.Strategy.{first_largest}
 use Rattle.rc_redraw.specs.Need.{need_seen}
 use Rattle.rc_view.specs.Seen.{view_seen}
-use Rattle.rc_search_model.specs.Search.{totals}
+use Rattle.rc_play_spec.specs.Search.{totals}
 use Rattle.rc_search.specs.Rival.{rival_seen}
 use Rattle.rc_search.proofs.TotalLemmas.{long}
 use Rattle.rc_search.proofs.playing.search_item.Goals as goal

@@ -1,8 +1,8 @@
 use Rattle.std.proofs.Common.{sym, ap, ◌∙◌, subst}
 use Rattle.rc_ast.specs.Sheet.{sheet_seen}
-use Rattle.rc_play_model.specs.About.{About}
-use Rattle.rc_play_model.specs.Scores.{scores_of, rank_points}
-use Rattle.rc_sheet_model.specs.Sheet.{Sheet}
+use Rattle.rc_play_spec.specs.About.{About}
+use Rattle.rc_play_spec.specs.Scores.{scores_of, rank_points}
+use Rattle.rc_sheet_spec.specs.Sheet.{Sheet}
 use Rattle.rc_search.specs.Sides.{AreSides}
 use Rattle.rc_search.proofs.LookLemmas.{all_scored}
 use Rattle.rc_search.proofs.pruned.points_of.Goals as goal

@@ -1,6 +1,6 @@
 use Rattle.std.proofs.Common.{◌≡◌, ◌<◌, length, refl, sym, ap, ◌∙◌, subst}
-use Rattle.rc_play_model.specs.About.{About, menu_at}
-use Rattle.rc_play_model.specs.Decision.{at_site}
+use Rattle.rc_play_spec.specs.About.{About, menu_at}
+use Rattle.rc_play_spec.specs.Decision.{at_site}
 use Rattle.rc_table.specs.Laid.{Laid}
 use Rattle.rc_view.specs.Seen.{view_seen}
 use Rattle.rc_flat.specs.Moments.{IsMoment}

@@ -1,10 +1,10 @@
 use Rattle.std.proofs.Common.{◌≡◌, ◌+◌, ◌≤◌, IfOk, OnOk, sym, ap, ◌∙◌, subst, arith}
-use Rattle.rc_play_model.specs.Draws.{key32, drawn_for, search_redraws}
-use Rattle.rc_play_model.specs.Redraw.{redraw}
+use Rattle.rc_play_spec.specs.Draws.{key32, drawn_for, search_redraws}
+use Rattle.rc_play_spec.specs.Redraw.{redraw}
 use Rattle.rc_view.specs.Seen.{view_seen}
-use Rattle.rc_search_model.specs.Value.{most_points}
-use Rattle.rc_search_model.proofs.Alternate.{two_teams}
-use Rattle.rc_sheet_model.specs.Sheet.{Sheet}
+use Rattle.rc_play_spec.specs.SearchValue.{most_points}
+use Rattle.rc_play_spec.proofs.Alternate.{two_teams}
+use Rattle.rc_sheet_spec.specs.Sheet.{Sheet}
 use Rattle.rc_search.specs.Sides.{AreSides}
 use Rattle.rc_search.specs.Shuffling.{dealing_on}
 use Rattle.rc_search.specs.Looking.{value_behind, tried_behind}

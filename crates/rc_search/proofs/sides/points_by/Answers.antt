@@ -1,6 +1,6 @@
 use Rattle.std.proofs.Common.{◌+◌, ap₂, sym, ◌∙◌, arith}
-use Rattle.rc_play_model.specs.Scores as play
-use Rattle.rc_play_model.specs.Shape.{team_in}
+use Rattle.rc_play_spec.specs.Scores as play
+use Rattle.rc_play_spec.specs.Shape.{team_in}
 use Rattle.rc_ast.specs.Sheet.{sheet_seen}
 use Rattle.rc_rules.proofs.PointLemmas.{summed_push}
 use Rattle.rc_search.proofs.sides.points_by.Goals as goal

@@ -1,6 +1,6 @@
 use Rattle.std.proofs.Common.{◌<◌, length, get_or, ap, ◌∙◌, arith}
 use Rattle.std.proofs.lemmas.List.FromFn.{length-map-range_with_len, get_or-map-range_with_len}
-use Rattle.rc_play_model.specs.Shape.{team_in}
+use Rattle.rc_play_spec.specs.Shape.{team_in}
 use Rattle.rc_ast.specs.Sheet.{sheet_seen}
 use Rattle.rc_search.proofs.sides.side_of.Goals as goal
 

@@ -1,5 +1,5 @@
 use Rattle.std.proofs.Common.{◌+◌, ◌++◌, ◌∷◌, [], ap, ap₂, sym, ◌∙◌}
-use Rattle.rc_play_model.specs.Shape.{team_in}
+use Rattle.rc_play_spec.specs.Shape.{team_in}
 use Rattle.rc_ast.specs.Sheet.{sheet_seen}
 use Rattle.rc_rules.proofs.PointLemmas.{mapped_push}
 use Rattle.rc_search.proofs.sides.sides_of.Goals as goal

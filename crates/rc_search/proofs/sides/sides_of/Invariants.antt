@@ -1,6 +1,6 @@
 use Rattle.std.proofs.Common.{◌≡◌, map}
-use Rattle.rc_model.specs.Numbers.{below}
-use Rattle.rc_play_model.specs.Shape.{team_in}
+use Rattle.rc_base.specs.Numbers.{below}
+use Rattle.rc_play_spec.specs.Shape.{team_in}
 use Rattle.rc_ast.specs.Sheet.{sheet_seen}
 use Rattle.arrayvec.specs.ArrayVec.{array_vec_len}
 use Rattle.rc_search.proofs.sides.sides_of.Given as goal

@@ -1,8 +1,8 @@
 use Rattle.std.proofs.Common.{◌≡◌, ◌+◌, ◌-◌, ◌*◌, ◌<◌, ◌≤◌, length, get_or, map, sym, ap, ◌∙◌, subst, arith}
 use Rattle.std.specs.Prelude.{All}
-use Rattle.rc_model.specs.Numbers.{below}
-use Rattle.rc_play_model.specs.Strategy.{menu_size}
-use Rattle.rc_search_model.specs.Search.{total}
+use Rattle.rc_base.specs.Numbers.{below}
+use Rattle.rc_play_spec.specs.Strategy.{menu_size}
+use Rattle.rc_play_spec.specs.Search.{total}
 use Rattle.rc_view.specs.Seen.{view_seen}
 use Rattle.rc_flat.specs.Machine.{Machine}
 use Rattle.rc_flat.proofs.GoingLemmas.{stays_then}

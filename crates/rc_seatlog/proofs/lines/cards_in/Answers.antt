@@ -1,6 +1,6 @@
 use Rattle.std.proofs.Common.{[], ◌∷◌, false, length, ap, ◌∙◌, arith}
 use Rattle.std.proofs.lemmas.List.{length-append}
-use Rattle.rc_log_model.proofs.Parts.{card_shorter}
+use Rattle.rc_log_spec.proofs.Parts.{card_shorter}
 use Rattle.rc_seatlog.proofs.RowLemmas.{cards_more}
 use Rattle.rc_seatlog.proofs.lines.cards_in.Goals as goal
 

@@ -1,6 +1,6 @@
 use Rattle.std.proofs.Common.{◌+◌, ◌-◌, sym, ap, ◌∙◌, arith}
 use Rattle.rc_seatlog.proofs.RowLemmas.{behind_found, counts_more, counts_stop}
-use Rattle.rc_log_model.specs.Fields.{counts_in}
+use Rattle.rc_log_spec.specs.Fields.{counts_in}
 use Rattle.rc_seatlog.proofs.lines.counts_in.Goals as goal
 
 pub returns-in-None : goal.returns-in-None

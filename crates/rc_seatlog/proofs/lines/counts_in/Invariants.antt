@@ -1,7 +1,7 @@
 use Rattle.std.proofs.Common.{◌≡◌, ◌-◌, ◌++◌, Some}
 use Rattle.arrayvec.specs.ArrayVec.{array_vec_len}
-use Rattle.rc_text_model.specs.Fields.{◌>>=◌}
-use Rattle.rc_log_model.specs.Fields.{counts_in}
+use Rattle.rc_play_spec.specs.Fields.{◌>>=◌}
+use Rattle.rc_log_spec.specs.Fields.{counts_in}
 use Rattle.rc_seatlog.proofs.lines.counts_in.Given as goal
 
 -- what is left gives what is missing

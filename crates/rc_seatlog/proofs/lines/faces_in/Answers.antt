@@ -1,6 +1,6 @@
 use Rattle.std.proofs.Common.{◌≡◌, ℕ, [], ◌∷◌, ◌++◌, true, length, Some, ap, ◌∙◌, arith}
 use Rattle.std.proofs.lemmas.List.{length-append, map_push}
-use Rattle.rc_log_model.proofs.Parts.{card_shorter}
+use Rattle.rc_log_spec.proofs.Parts.{card_shorter}
 use Rattle.rc_seatlog.proofs.RowLemmas.{known, cards_more}
 use Rattle.rc_seatlog.proofs.lines.faces_in.Goals as goal
 

@@ -1,6 +1,6 @@
 use Rattle.std.proofs.Common.{◌≡◌, ◌≤◌, ◌+◌, ◌-◌, ◌++◌, length, Some, true}
-use Rattle.rc_text_model.specs.Fields.{◌>>=◌}
-use Rattle.rc_log_model.specs.Fields.{cards_in}
+use Rattle.rc_play_spec.specs.Fields.{◌>>=◌}
+use Rattle.rc_log_spec.specs.Fields.{cards_in}
 use Rattle.rc_seatlog.proofs.RowLemmas.{known}
 use Rattle.rc_seatlog.proofs.lines.faces_in.Given as goal
 

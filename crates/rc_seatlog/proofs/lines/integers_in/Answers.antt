@@ -1,7 +1,7 @@
 use Rattle.std.proofs.Common.{◌≡◌, ◌+◌, ◌-◌, [], ◌∷◌, ◌++◌, List, ℤ, to_z, of_z, w64, sym, ap, ◌∙◌, arith}
 use Rattle.std.proofs.lemmas.Int.{to_z-of_z}
 use Rattle.rc_seatlog.proofs.RowLemmas.{behind_found, integers_more, integers_stop}
-use Rattle.rc_log_model.specs.Fields.{integers_in}
+use Rattle.rc_log_spec.specs.Fields.{integers_in}
 use Rattle.rc_seatlog.proofs.lines.integers_in.Goals as goal
 
 pub returns-in-None : goal.returns-in-None

@@ -1,6 +1,6 @@
 use Rattle.std.proofs.Common.{map, length, arith}
 use Rattle.std.proofs.lemmas.List.{length-map}
-use Rattle.rc_play_model.specs.Sees.{sees}
+use Rattle.rc_play_spec.specs.Sees.{sees}
 use Rattle.rc_view.specs.Seen.{sight_seen, view_seen}
 use Rattle.rc_seatlog.proofs.Exactly.{too_far}
 use Rattle.rc_seatlog.proofs.places.in_places.Goals as goal

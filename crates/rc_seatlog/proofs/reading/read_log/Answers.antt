@@ -1,8 +1,8 @@
 use Rattle.std.proofs.Common.{ap, ◌∙◌, subst}
-use Rattle.rc_log_model.specs.Reading.{read_log}
-use Rattle.rc_log_model.specs.Log.{log_text}
+use Rattle.rc_log_spec.specs.Reading.{read_log}
+use Rattle.rc_log_spec.specs.Log.{log_text}
 use Rattle.rc_seatlog.specs.Gives.{Gives}
-use Rattle.rc_log_model.proofs.Matches.{is_small}
+use Rattle.rc_log_spec.proofs.Matches.{is_small}
 use Rattle.rc_seatlog.proofs.Exactly.{read_is, read_spelled, read_of, fault_first}
 use Rattle.rc_seatlog.proofs.reading.read_log.Goals as goal
 

@@ -1,13 +1,13 @@
 use Rattle.std.proofs.Common.{◌≡◌, IfOk, map, take, ap, sym, ◌∙◌, subst}
 use Rattle.std.proofs.lemmas.List.{take-map}
-use Rattle.rc_play_model.specs.Keyed.{dealing_of}
-use Rattle.rc_play_model.specs.Step.{start}
-use Rattle.rc_play_model.specs.Stop.{stop_of}
+use Rattle.rc_play_spec.specs.Keyed.{dealing_of}
+use Rattle.rc_play_spec.specs.Step.{start}
+use Rattle.rc_play_spec.specs.Stop.{stop_of}
 use Rattle.rc_rules.specs.Record.{pick_seen}
 use Rattle.rc_view.specs.Seen.{view_seen}
-use Rattle.rc_log_model.specs.Log.{most_told}
-use Rattle.rc_log_model.specs.Views.{views_in}
-use Rattle.rc_log_model.specs.Plays.{IsPlayOf}
+use Rattle.rc_log_spec.specs.Log.{most_told}
+use Rattle.rc_log_spec.specs.Views.{views_in}
+use Rattle.rc_log_spec.specs.Plays.{IsPlayOf}
 use Rattle.rc_seatlog.proofs.PlayLemmas.{first_play, first_views}
 use Rattle.rc_seatlog.proofs.views.first_views_of.Goals as goal
 

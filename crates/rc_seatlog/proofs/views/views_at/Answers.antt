@@ -1,18 +1,18 @@
 use Rattle.std.proofs.Common.{◌≡◌, ◌++◌, ℕ, map, sym, ap, ◌∙◌, ◌<◌, length, get_or, Some, subst, append-nil}
 use Rattle.std.proofs.lemmas.List.{map_push, drop_all}
-use Rattle.rc_play_model.specs.About.{About}
-use Rattle.rc_play_model.specs.Keyed.{dealing_of}
-use Rattle.rc_play_model.specs.Step.{start}
-use Rattle.rc_play_model.specs.Stop.{Stopped, stop_of}
-use Rattle.rc_play_model.specs.Play.{stop_behind}
-use Rattle.rc_play_model.specs.Decision.{choose}
-use Rattle.rc_play_model.specs.View.{view_of}
-use Rattle.rc_log_model.specs.Views.{views_from}
+use Rattle.rc_play_spec.specs.About.{About}
+use Rattle.rc_play_spec.specs.Keyed.{dealing_of}
+use Rattle.rc_play_spec.specs.Step.{start}
+use Rattle.rc_play_spec.specs.Stop.{Stopped, stop_of}
+use Rattle.rc_play_spec.specs.Play.{stop_behind}
+use Rattle.rc_play_spec.specs.Decision.{choose}
+use Rattle.rc_play_spec.specs.View.{view_of}
+use Rattle.rc_log_spec.specs.Views.{views_from}
 use Rattle.rc_rules.specs.Control.{stop_seen}
 use Rattle.rc_rules.specs.Record.{pick_seen}
 use Rattle.rc_rules.specs.Machine.{StopsAtDecision, IsWhereItStops, menu_here}
 use Rattle.rc_rules.specs.declared.record.Pick.{Pick}
-use Rattle.rc_log_model.specs.Plays.{IsPlayOf}
+use Rattle.rc_log_spec.specs.Plays.{IsPlayOf}
 use Rattle.rc_view.specs.Seen.{view_seen}
 use Rattle.rc_seatlog.proofs.PlayLemmas.{goes, stands_there, offered_there, begins, goes_on, sees_on}
 use Rattle.rc_seatlog.proofs.views.views_at.Goals as goal

@@ -1,9 +1,9 @@
 use Rattle.std.specs.Prelude.{string_bytes}
 use Rattle.std.proofs.Common.{ap, ◌∙◌, ◌++◌, flat_map}
-use Rattle.rc_model.specs.Transcript.{line}
+use Rattle.rc_base.specs.Transcript.{line}
 use Rattle.rc_view.specs.declared.view.View.{View}
 use Rattle.rc_view.specs.Seen.{view_seen}
-use Rattle.rc_log_model.specs.Log.{block_lines}
+use Rattle.rc_log_spec.specs.Log.{block_lines}
 use Rattle.rc_seatlog.proofs.WriteLemmas.{blocks_step}
 use Rattle.rc_seatlog.proofs.write.write_blocks.Goals as goal
 

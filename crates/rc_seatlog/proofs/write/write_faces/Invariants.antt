@@ -1,8 +1,8 @@
 use Rattle.std.proofs.Common.{◌≡◌, ◌++◌, take, flat_map}
 use Rattle.std.specs.Prelude.{string_bytes}
-use Rattle.rc_play_model.specs.View.{with_faces}
-use Rattle.rc_log_model.specs.Shown.{cards_shown}
-use Rattle.rc_log_model.specs.Lines.{card_text}
+use Rattle.rc_play_spec.specs.View.{with_faces}
+use Rattle.rc_log_spec.specs.Shown.{cards_shown}
+use Rattle.rc_log_spec.specs.Lines.{card_text}
 use Rattle.rc_seatlog.proofs.write.write_faces.Given as goal
 
 abbrev pub invariant-loop-face : goal.invariant-loop-face

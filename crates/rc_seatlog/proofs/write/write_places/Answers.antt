@@ -1,9 +1,9 @@
 use Rattle.std.specs.Prelude.{string_bytes}
 use Rattle.std.proofs.Common.{ap, ◌∙◌, ◌++◌}
-use Rattle.rc_model.specs.Transcript.{line}
+use Rattle.rc_base.specs.Transcript.{line}
 use Rattle.rc_view.specs.declared.sight.Sight.{Sight}
 use Rattle.rc_view.specs.Seen.{sight_seen}
-use Rattle.rc_log_model.specs.Lines.{place_text}
+use Rattle.rc_log_spec.specs.Lines.{place_text}
 use Rattle.rc_seatlog.proofs.WriteLemmas.{places_step}
 use Rattle.rc_seatlog.proofs.write.write_places.Goals as goal
 

@@ -1,7 +1,7 @@
 use Rattle.rc_series.proofs.plays.series_of.Given as goal
 
-abbrev pub ghosts-played : goal.ghosts-played
-ghosts-played g a =
+abbrev pub ghosts-play_plan : goal.ghosts-play_plan
+ghosts-play_plan g a =
     record {
       about = a.about.now.value;
       capacity = a.capacity;

@@ -1,5 +1,5 @@
 use Rattle.std.proofs.Common.{◌≡◌, take}
-use Rattle.rc_play_model.specs.Table.{taken}
+use Rattle.rc_play_spec.specs.Table.{taken}
 use Rattle.rc_table.proofs.edits.put_in_order.Given as goal
 
 abbrev pub invariant-loop-at : goal.invariant-loop-at

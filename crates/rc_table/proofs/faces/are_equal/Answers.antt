@@ -1,7 +1,7 @@
 use Rattle.std.proofs.Common.{◌≡◌, ℕ, Bool, true, false, ◌&&◌, ◌==◌, [], ◌∷◌, refl, ap, ◌∙◌}
 use Rattle.std.specs.Cmp.Lexicographic.{pointwise}
-use Rattle.rc_model.specs.Deck.{Face}
-use Rattle.rc_play_model.specs.Shape.{face_eq}
+use Rattle.rc_base.specs.Deck.{Face}
+use Rattle.rc_play_spec.specs.Shape.{face_eq}
 use Rattle.rc_table.proofs.faces.are_equal.Goals as goal
 
 abbrev pair_eq : ℕ × ℕ → ℕ × ℕ → Bool

@@ -1,7 +1,7 @@
 use Rattle.std.proofs.Common.{[], get_or, ap, ◌∙◌, arith}
 use Rattle.std.specs.List.{position_or_len}
 use Rattle.std.proofs.lemmas.List.{get_or-map}
-use Rattle.rc_play_model.specs.Shape.{face_eq}
+use Rattle.rc_play_spec.specs.Shape.{face_eq}
 use Rattle.rc_table.proofs.FaceNumbers.{number_le}
 use Rattle.rc_table.proofs.faces.face_number.Goals as goal
 

@@ -1,7 +1,7 @@
 use Rattle.std.proofs.Common.{◌∙◌, [], length, sym, ap₂, arith}
 use Rattle.std.proofs.lemmas.List.{get_or_read}
 use Rattle.std.proofs.lemmas.List.Sums.{position_or_len_is}
-use Rattle.rc_play_model.specs.Shape.{face_eq}
+use Rattle.rc_play_spec.specs.Shape.{face_eq}
 use Rattle.rc_table.proofs.faces.first_like.Goals as goal
 
 pub returns-then-are_equal-clause-first : goal.returns-then-are_equal-clause-first

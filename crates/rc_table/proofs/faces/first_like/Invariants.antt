@@ -1,5 +1,5 @@
 use Rattle.std.proofs.Common.{◌≡◌, ◌<◌, ℕ, false, get_or, []}
-use Rattle.rc_play_model.specs.Shape.{face_eq}
+use Rattle.rc_play_spec.specs.Shape.{face_eq}
 use Rattle.rc_table.proofs.faces.first_like.Given as goal
 
 abbrev pub invariant-loop-place : goal.invariant-loop-place

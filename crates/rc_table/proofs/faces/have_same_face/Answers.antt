@@ -1,7 +1,7 @@
 use Rattle.std.proofs.Common.{◌≡◌, sym, ap, ◌∙◌}
 use Rattle.std.proofs.lemmas.Bool.{eq-eqb}
-use Rattle.rc_play_model.specs.Shape.{face_at, face_eq}
-use Rattle.rc_play_model.proofs.Faces.{face_eq_self}
+use Rattle.rc_play_spec.specs.Shape.{face_at, face_eq}
+use Rattle.rc_play_spec.proofs.Faces.{face_eq_self}
 use Rattle.rc_table.proofs.faces.have_same_face.Goals as goal
 
 -- a card's face equals itself

@@ -1,5 +1,5 @@
 use Rattle.std.proofs.Common.{◌≡◌, ◌++◌, take, drop, reverse}
-use Rattle.rc_play_model.specs.Table.{without_face}
+use Rattle.rc_play_spec.specs.Table.{without_face}
 use Rattle.rc_table.proofs.finding.topmost.Given as goal
 
 abbrev pub invariant-loop-place : goal.invariant-loop-place

@@ -1,5 +1,5 @@
 use Rattle.std.proofs.Common.{◌≡◌, length, map}
-use Rattle.rc_model.specs.Numbers.{below}
+use Rattle.rc_base.specs.Numbers.{below}
 use Rattle.rc_table.specs.Laid.{rooms}
 use Rattle.rc_table.proofs.Homes.{begun}
 use Rattle.rc_table.proofs.table.homes.Given as goal

@@ -1,5 +1,5 @@
 use Rattle.std.proofs.Common.{refl, arith}
-use Rattle.rc_play_model.specs.Table.{Table}
+use Rattle.rc_play_spec.specs.Table.{Table}
 use Rattle.rc_table.proofs.WhereaboutEdits.{can_note, row_noted, rows_noted}
 use Rattle.rc_table.proofs.whereabouts.note_all.Goals as goal
 

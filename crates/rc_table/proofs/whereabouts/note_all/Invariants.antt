@@ -1,5 +1,5 @@
 use Rattle.std.proofs.Common.{◌≡◌, ℕ, ◌<◌, length, get_or}
-use Rattle.rc_play_model.specs.Table.{place_of}
+use Rattle.rc_play_spec.specs.Table.{place_of}
 use Rattle.rc_table.specs.Whereabouts.{laid_out}
 use Rattle.rc_table.proofs.WhereaboutLemmas.{nowhere}
 use Rattle.rc_table.proofs.whereabouts.note_all.Given as goal

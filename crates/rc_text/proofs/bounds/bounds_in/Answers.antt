@@ -1,7 +1,7 @@
 use Rattle.std.proofs.Common.{◌≡◌, ◌<◌, ◌-◌, ◌+◌, ◌++◌, ◌∷◌, [], length, map, arith, sym, ap, subst, ◌∙◌}
 use Rattle.std.proofs.lemmas.Grind.{common_steps}
 use Rattle.std.proofs.lemmas.List.{map-append, length-append}
-use Rattle.rc_text_model.specs.Bounds.{marks_in}
+use Rattle.rc_play_spec.specs.Bounds.{marks_in}
 use Rattle.rc_rules.specs.Bounds.{bound_seen, bounds_seen}
 use Rattle.rc_text.specs.Finds.{Finds}
 use Rattle.rc_text.proofs.MarkSteps.{behind_marks, marks_more, no_mark, marks_end, some_left, none_left}

@@ -1,5 +1,5 @@
 use Rattle.std.proofs.Common.{◌≡◌, ◌≤◌, ◌-◌, length, map}
-use Rattle.rc_text_model.specs.Bounds.{marks_in}
+use Rattle.rc_play_spec.specs.Bounds.{marks_in}
 use Rattle.rc_rules.specs.Bounds.{bound_seen}
 use Rattle.rc_text.proofs.MarkSteps.{behind_marks}
 use Rattle.rc_text.proofs.bounds.bounds_in.Given as goal

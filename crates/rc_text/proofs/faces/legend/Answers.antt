@@ -1,9 +1,9 @@
 use Rattle.std.proofs.Common.{◌≡◌, ◌==◌, ◌++◌, ℕ, map, flat_map, true, false, ap, sym, ◌∙◌, arith}
 use Rattle.std.proofs.lemmas.Grind.{common_steps}
-use Rattle.rc_model.specs.Transcript.{line}
-use Rattle.rc_play_model.specs.Shape.{face_number}
+use Rattle.rc_base.specs.Transcript.{line}
+use Rattle.rc_play_spec.specs.Shape.{face_number}
 use Rattle.rc_ast.specs.Sheet.{sheet_seen}
-use Rattle.rc_text_model.specs.Naming.{face_line}
+use Rattle.rc_play_spec.specs.Naming.{face_line}
 use Rattle.rc_text.proofs.Below.{gains_text, left_out}
 use Rattle.rc_text.proofs.faces.legend.Goals as goal
 use Rattle.rc_text.proofs.faces.legend.Goals.{then-face_number-id+in_ok-add_face, else-face_number-id}

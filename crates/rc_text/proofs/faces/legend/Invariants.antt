@@ -1,9 +1,9 @@
 use Rattle.std.proofs.Common.{◌≡◌, ◌==◌, map, flat_map, filter}
-use Rattle.rc_model.specs.Numbers.{below}
-use Rattle.rc_model.specs.Transcript.{line}
-use Rattle.rc_play_model.specs.Shape.{face_number}
+use Rattle.rc_base.specs.Numbers.{below}
+use Rattle.rc_base.specs.Transcript.{line}
+use Rattle.rc_play_spec.specs.Shape.{face_number}
 use Rattle.rc_ast.specs.Sheet.{sheet_seen}
-use Rattle.rc_text_model.specs.Naming.{face_line}
+use Rattle.rc_play_spec.specs.Naming.{face_line}
 use Rattle.rc_text.proofs.faces.legend.Given as goal
 
 -- the lines of the faces so far

@@ -1,5 +1,5 @@
 use Rattle.std.proofs.Common.{◌≡◌, ◌≤◌, ◌-◌, length, drop}
-use Rattle.rc_text_model.specs.Fields.{behind}
+use Rattle.rc_play_spec.specs.Fields.{behind}
 use Rattle.rc_text.proofs.fields.behind.Given as goal
 
 abbrev pub invariant-loop-at : goal.invariant-loop-at

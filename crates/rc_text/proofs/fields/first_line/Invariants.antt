@@ -1,5 +1,5 @@
 use Rattle.std.proofs.Common.{◌≤◌, ◌-◌, length, take}
-use Rattle.rc_text_model.specs.HouseText.{IsOneLine}
+use Rattle.rc_play_spec.specs.HouseText.{IsOneLine}
 use Rattle.rc_text.proofs.fields.first_line.Given as goal
 
 abbrev pub invariant-loop-at : goal.invariant-loop-at

@@ -1,6 +1,6 @@
 use Rattle.std.proofs.Common.{◌+◌, ◌++◌, map, drop, get_or, sym, ap, ◌∙◌, append_assoc}
 use Rattle.rc_rules.specs.Record.{record_seen}
-use Rattle.rc_text_model.specs.TextParts.{record_told}
+use Rattle.rc_play_spec.specs.TextParts.{record_told}
 use Rattle.rc_rules.specs.Bounds.{bounds_seen}
 use Rattle.rc_text.specs.BoundSeen.{told_at}
 use Rattle.rc_text.specs.House.{records_told}

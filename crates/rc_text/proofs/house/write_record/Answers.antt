@@ -1,7 +1,7 @@
 use Rattle.std.proofs.Common.{◌++◌, [], ap, ◌∙◌}
 use Rattle.rc_rules.specs.Record.{record_seen}
-use Rattle.rc_text_model.specs.TextParts.{record_told}
-use Rattle.rc_text_model.proofs.SameTexts.{bare_record}
+use Rattle.rc_play_spec.specs.TextParts.{record_told}
+use Rattle.rc_play_spec.proofs.SameTexts.{bare_record}
 use Rattle.rc_text.proofs.house.write_record.Goals as goal
 
 pub returns : goal.returns

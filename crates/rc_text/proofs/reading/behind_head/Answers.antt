@@ -1,6 +1,6 @@
 use Rattle.std.proofs.Common.{◌≡◌, ℕ, List, ◌++◌, arith, sym, ap, ◌∙◌}
 use lib.Pointwise.{bytes_decides}
-use Rattle.rc_text_model.specs.Reading.{before, lines_in, read_from}
+use Rattle.rc_play_spec.specs.Reading.{before, lines_in, read_from}
 use Rattle.rc_text.proofs.Heads.{head_step, head_fails, head_missing}
 use Rattle.rc_text.proofs.reading.behind_head.Goals as goal
 use Rattle.rc_text.proofs.reading.behind_head.Goals.{in_default-first_line-via-in-Some-first_line+else-eq, in_default-first_line-via-in_default-first_line}

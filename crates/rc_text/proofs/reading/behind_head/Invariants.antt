@@ -1,5 +1,5 @@
 use Rattle.std.proofs.Common.{◌≡◌, ◌≤◌, ◌+◌, ◌++◌, ℕ, Bool, List, [], length}
-use Rattle.rc_text_model.specs.Reading.{before, lines_in, read_from}
+use Rattle.rc_play_spec.specs.Reading.{before, lines_in, read_from}
 use Rattle.rc_text.proofs.reading.behind_head.Given as goal
 
 -- what is read from here is what is read from the start

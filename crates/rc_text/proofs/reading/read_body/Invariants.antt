@@ -1,5 +1,5 @@
 use Rattle.std.proofs.Common.{◌≡◌, ◌≤◌, ◌+◌, [], length, true}
-use Rattle.rc_text_model.specs.Reading.{before, lines_in, read_from}
+use Rattle.rc_play_spec.specs.Reading.{before, lines_in, read_from}
 use Rattle.rc_text.specs.PlaceSeen.{stand_seen, StandsFit}
 use Rattle.rc_text.proofs.reading.read_body.Given as goal
 

@@ -1,6 +1,6 @@
 use Rattle.std.proofs.Common.{ap, ◌∙◌, subst, rules}
-use Rattle.rc_text_model.specs.HouseText.{plain, unmarked}
-use Rattle.rc_text_model.specs.Reading.{read_in}
+use Rattle.rc_play_spec.specs.HouseText.{plain, unmarked}
+use Rattle.rc_play_spec.specs.Reading.{read_in}
 use Rattle.rc_text.specs.Gives.{Gives}
 use Rattle.rc_text.proofs.Exactly.{plain_seen, house_is, house_spelled, house_again, house_fails, read_few, read_fault}
 use Rattle.rc_text.proofs.reading.read_house.Goals as goal

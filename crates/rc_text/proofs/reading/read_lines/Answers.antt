@@ -1,5 +1,5 @@
 use Rattle.std.proofs.Common.{◌++◌, [], refl, sym, ap, subst, ◌∙◌, append-nil}
-use Rattle.rc_text_model.specs.Reading.{before, lines_in, read_from}
+use Rattle.rc_play_spec.specs.Reading.{before, lines_in, read_from}
 use Rattle.rc_text.specs.Gives.{Gives}
 use Rattle.rc_text.specs.House.{named_seen}
 use Rattle.rc_text.proofs.Exactly.{hands_fault, fault_behind}

@@ -1,7 +1,7 @@
 use Rattle.std.proofs.Common.{ap, ◌∙◌, subst, rules}
-use Rattle.rc_text_model.specs.HouseText.{naming}
-use Rattle.rc_text_model.specs.Reading.{lines_in, read_in}
-use Rattle.rc_text_model.proofs.LineCuts.{lines_one}
+use Rattle.rc_play_spec.specs.HouseText.{naming}
+use Rattle.rc_play_spec.specs.Reading.{lines_in, read_in}
+use Rattle.rc_play_spec.proofs.LineCuts.{lines_one}
 use Rattle.rc_text.specs.Gives.{Gives}
 use Rattle.rc_text.specs.House.{named_seen}
 use Rattle.rc_text.proofs.Exactly.{read_is, read_spelled, read_few, read_fault}

@@ -1,6 +1,6 @@
 use Rattle.std.proofs.Common.{ℕ, ◌+◌, List, ◌++◌, arith, sym, ap, ◌∙◌}
 use Rattle.rc_rules.specs.Record.{pick_seen, record_seen}
-use Rattle.rc_text_model.specs.Reading.{inside, playing, noted, lines_in, read_from}
+use Rattle.rc_play_spec.specs.Reading.{inside, playing, noted, lines_in, read_from}
 use Rattle.rc_text.specs.BoundSeen.{option_seen}
 use Rattle.rc_text.specs.PlaceSeen.{open_marks, open_stand}
 use Rattle.rc_text.proofs.Choices.{one_choice}

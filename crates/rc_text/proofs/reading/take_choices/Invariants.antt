@@ -1,7 +1,7 @@
 use Rattle.std.proofs.Common.{◌≡◌, ◌≤◌, ◌+◌, List, length, true}
-use Rattle.rc_model.specs.Transcript.{Record}
-use Rattle.rc_play_model.specs.ItemBounds.{Bound}
-use Rattle.rc_text_model.specs.Reading.{lines_in, read_from}
+use Rattle.rc_base.specs.Transcript.{Record}
+use Rattle.rc_play_spec.specs.ItemBounds.{Bound}
+use Rattle.rc_play_spec.specs.Reading.{lines_in, read_from}
 use Rattle.rc_text.specs.PlaceSeen.{open_stand, IsFit}
 use Rattle.rc_text.proofs.reading.take_choices.Given as goal
 

@@ -1,6 +1,6 @@
 use Rattle.std.proofs.Common.{map, ap, ◌∙◌}
 use Rattle.rc_rules.specs.Record.{record_seen}
-use Rattle.rc_text_model.specs.Reading.{lines_in, read_from}
+use Rattle.rc_play_spec.specs.Reading.{lines_in, read_from}
 use Rattle.rc_text.specs.PlaceSeen.{marks_of, stand_seen}
 use Rattle.rc_text.proofs.reading.with_choices.Goals as goal
 

@@ -1,6 +1,6 @@
 use Rattle.std.proofs.Common.{subst}
-use Rattle.rc_text_model.specs.HouseText.{plain}
-use Rattle.rc_text_model.specs.Reading.{read_in}
+use Rattle.rc_play_spec.specs.HouseText.{plain}
+use Rattle.rc_play_spec.specs.Reading.{read_in}
 use Rattle.rc_text.specs.Gives.{Gives}
 use Rattle.rc_text.specs.House.{named_seen}
 use Rattle.rc_text.proofs.Exactly.{no_marks_read}

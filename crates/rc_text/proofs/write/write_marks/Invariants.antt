@@ -1,5 +1,5 @@
 use Rattle.std.proofs.Common.{◌≡◌, ◌++◌, map, take, flat_map}
-use Rattle.rc_text_model.specs.Bounds.{mark_text}
+use Rattle.rc_play_spec.specs.Bounds.{mark_text}
 use Rattle.rc_rules.specs.Bounds.{bound_seen}
 use Rattle.rc_text.proofs.write.write_marks.Given as goal
 

@@ -1,5 +1,5 @@
 use Rattle.std.proofs.Common.{◌≡◌, ◌++◌, map, drop}
-use Rattle.rc_text_model.specs.TextParts.{picks_text}
+use Rattle.rc_play_spec.specs.TextParts.{picks_text}
 use Rattle.rc_rules.specs.Record.{pick_seen}
 use Rattle.rc_rules.specs.Bounds.{bounds_seen}
 use Rattle.rc_text.proofs.write.write_picks.Given as goal

@@ -1,5 +1,5 @@
 use Rattle.std.proofs.Common.{◌≡◌, ◌++◌, map, take, flat_map}
-use Rattle.rc_model.specs.Transcript.{score_line}
+use Rattle.rc_base.specs.Transcript.{score_line}
 use Rattle.rc_rules.specs.Record.{score_seen}
 use Rattle.rc_text.proofs.write.write_scores.Given as goal
 

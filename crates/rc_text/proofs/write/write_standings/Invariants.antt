@@ -1,5 +1,5 @@
 use Rattle.std.proofs.Common.{◌≡◌, ◌++◌, map, take, flat_map, string_bytes}
-use Rattle.rc_model.specs.Transcript.{standing_line}
+use Rattle.rc_base.specs.Transcript.{standing_line}
 use Rattle.rc_rules.specs.Record.{standing_seen}
 use Rattle.rc_text.proofs.write.write_standings.Given as goal
 

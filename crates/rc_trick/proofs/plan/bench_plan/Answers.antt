@@ -1,5 +1,5 @@
 use Rattle.std.proofs.Common.{◌≡◌, subst, sym, rules}
-use Rattle.rc_plan_model.specs.Limits.{IsWithinLimits}
+use Rattle.rc_play_spec.specs.Limits.{IsWithinLimits}
 use Rattle.rc_rules.specs.Plan.{plan_seen}
 use Rattle.rc_trick.specs.Bench.{bench_plan}
 use Rattle.rc_trick.proofs.Within.{bench_within}

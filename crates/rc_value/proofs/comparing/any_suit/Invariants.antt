@@ -1,6 +1,6 @@
 use Rattle.std.proofs.Common.{◌≡◌, drop}
 use Rattle.std.specs.List.{list_any}
-use Rattle.rc_model.specs.Numbers.{below}
+use Rattle.rc_base.specs.Numbers.{below}
 use Rattle.rc_value.specs.Comparing.{suits}
 use Rattle.rc_value.specs.Scene.{scene_seen}
 use Rattle.rc_value.proofs.comparing.any_suit.Given as goal

@@ -1,7 +1,7 @@
 use Rattle.std.proofs.Common.{map, slice_get, sym, ap, ◌∙◌, rules, SFits, w64}
 use Rattle.std.proofs.lemmas.Int.{to_z-of_z}
-use Rattle.rc_sheet_model.specs.Sheet.{NumName, player_class}
-use Rattle.rc_play_model.specs.Value.{number_there}
+use Rattle.rc_sheet_spec.specs.Sheet.{NumName, player_class}
+use Rattle.rc_play_spec.specs.Value.{number_there}
 use Rattle.rc_ast.specs.Sheet.{sheet_seen}
 use Rattle.rc_rules.specs.Lookup.{place_in}
 use Rattle.rc_rules.proofs.Ranges.{place_is}

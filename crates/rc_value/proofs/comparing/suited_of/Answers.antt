@@ -1,8 +1,8 @@
 use Rattle.std.proofs.Common.{ap, subst}
 use Rattle.std.specs.Prelude.{IfSome}
-use Rattle.rc_play_model.specs.Value.{test_value}
+use Rattle.rc_play_spec.specs.Value.{test_value}
 use Rattle.rc_ast.specs.Expressions.{int_seen, test_seen}
-use Rattle.rc_asked.specs.declared.atoms.Comparator.TheVariants.{Equal, Less, AtMost, More, AtLeast}
+use Rattle.rc_code.specs.declared.atoms.Comparator.TheVariants.{Equal, Less, AtMost, More, AtLeast}
 use Rattle.rc_value.specs.Comparing.{ArePaired}
 use Rattle.rc_value.specs.Scene.{scene_seen}
 use Rattle.rc_value.proofs.ComparingLemmas.{suited_is}

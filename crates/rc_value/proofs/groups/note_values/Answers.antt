@@ -1,5 +1,5 @@
 use Rattle.std.proofs.Common.{arith, ap, ◌∙◌}
-use Rattle.rc_play_model.specs.Value.{attr_of as attr_value}
+use Rattle.rc_play_spec.specs.Value.{attr_of as attr_value}
 use Rattle.rc_value.specs.Cards.{value_seen}
 use Rattle.rc_value.specs.Scene.{scene_seen}
 use Rattle.rc_value.specs.Groups.{noted_in}

@@ -1,6 +1,6 @@
 use Rattle.std.proofs.Common.{◌≡◌, ◌≤◌, length, take}
 use Rattle.std.specs.Prelude.{filter_map}
-use Rattle.rc_play_model.specs.Value.{attr_of as attr_value, firsts}
+use Rattle.rc_play_spec.specs.Value.{attr_of as attr_value, firsts}
 use Rattle.rc_value.specs.Scene.{scene_seen}
 use Rattle.rc_value.proofs.groups.note_values.Given as goal
 

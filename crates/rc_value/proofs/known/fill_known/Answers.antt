@@ -1,9 +1,9 @@
 use Rattle.std.proofs.Common.{map, sym, ap, ◌∙◌, subst, ◌≤◌, length}
 use Rattle.std.specs.List.{filter}
-use Rattle.rc_play_model.specs.Scene.{held}
-use Rattle.rc_play_model.specs.Sees.{sees}
-use Rattle.rc_play_model.specs.Table.{is_marked}
-use Rattle.rc_play_model.specs.Value.{cut, known_there}
+use Rattle.rc_play_spec.specs.Scene.{held}
+use Rattle.rc_play_spec.specs.Sees.{sees}
+use Rattle.rc_play_spec.specs.Table.{is_marked}
+use Rattle.rc_play_spec.specs.Value.{cut, known_there}
 use Rattle.rc_value.specs.Scene.{scene_seen}
 use Rattle.rc_value.proofs.KnownLemmas.{known_part}
 use Rattle.rc_value.proofs.known.fill_known.Goals as goal

@@ -1,7 +1,7 @@
 use Rattle.std.proofs.Common.{◌≡◌, ◌≤◌, length, take, map}
 use Rattle.std.specs.List.{filter}
-use Rattle.rc_play_model.specs.Table.{is_marked}
-use Rattle.rc_play_model.specs.Scene.{held}
+use Rattle.rc_play_spec.specs.Table.{is_marked}
+use Rattle.rc_play_spec.specs.Scene.{held}
 use Rattle.rc_value.specs.Cards.{values_seen}
 use Rattle.rc_value.proofs.known.fill_marked.Given as goal
 

@@ -1,5 +1,5 @@
 use Rattle.std.proofs.Common.{ap, sym, arith}
-use Rattle.rc_play_model.specs.Shape.{Shape}
+use Rattle.rc_play_spec.specs.Shape.{Shape}
 use Rattle.rc_value.proofs.KnownLemmas.{no_mark}
 use Rattle.rc_value.proofs.known.has_mark.Goals as goal
 

@@ -1,5 +1,5 @@
 use Rattle.std.proofs.Common.{if◌then◌else◌, int_lt, arith}
-use Rattle.rc_play_model.specs.Value.{int_more, worth}
+use Rattle.rc_play_spec.specs.Value.{int_more, worth}
 use Rattle.rc_value.specs.Cards.{value_seen}
 use Rattle.rc_value.specs.Scene.{scene_seen}
 use Rattle.rc_value.proofs.Best.{best_step}

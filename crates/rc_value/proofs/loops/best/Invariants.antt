@@ -1,6 +1,6 @@
 use Rattle.std.proofs.Common.{◌≡◌, drop, if◌then◌else◌, int_lt}
 use Rattle.std.specs.List.{best_of as first_best}
-use Rattle.rc_play_model.specs.Value.{beats, worth, int_more}
+use Rattle.rc_play_spec.specs.Value.{beats, worth, int_more}
 use Rattle.rc_value.specs.Cards.{value_seen}
 use Rattle.rc_value.specs.Scene.{scene_seen}
 use Rattle.rc_value.proofs.loops.best.Given as goal

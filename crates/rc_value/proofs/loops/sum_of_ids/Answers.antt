@@ -1,7 +1,7 @@
 use Rattle.std.proofs.Common.{get_or, arith}
 use Rattle.std.proofs.lemmas.Int.{ints, clamps}
-use Rattle.rc_play_model.specs.Scene.{held}
-use Rattle.rc_play_model.specs.Value.{worth}
+use Rattle.rc_play_spec.specs.Scene.{held}
+use Rattle.rc_play_spec.specs.Value.{worth}
 use Rattle.rc_value.specs.Scene.{scene_seen}
 use Rattle.rc_value.proofs.Lists.{here_is}
 use Rattle.rc_value.proofs.Best.{sum_more, sum_all}

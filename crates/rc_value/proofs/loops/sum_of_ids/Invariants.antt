@@ -1,7 +1,7 @@
 use Rattle.std.proofs.Common.{◌≡◌, ◌*◌, take, map, pos, neg_ℤ, ◌≤ℤ◌, ◌+ℤ◌}
 use Rattle.std.specs.List.{fold}
-use Rattle.rc_play_model.specs.Scene.{held}
-use Rattle.rc_play_model.specs.Value.{worth}
+use Rattle.rc_play_spec.specs.Scene.{held}
+use Rattle.rc_play_spec.specs.Value.{worth}
 use Rattle.rc_value.specs.Scene.{scene_seen}
 use Rattle.rc_value.proofs.loops.sum_of_ids.Given as goal
 

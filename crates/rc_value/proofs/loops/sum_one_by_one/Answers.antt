@@ -1,6 +1,6 @@
 use Rattle.std.proofs.Common.{arith}
 use Rattle.std.proofs.lemmas.Int.{ints, clamps}
-use Rattle.rc_play_model.specs.Value.{worth}
+use Rattle.rc_play_spec.specs.Value.{worth}
 use Rattle.rc_value.specs.Cards.{value_seen}
 use Rattle.rc_value.specs.Scene.{scene_seen}
 use Rattle.rc_value.proofs.Best.{sum_more, sum_all}

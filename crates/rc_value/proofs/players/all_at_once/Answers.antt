@@ -1,5 +1,5 @@
 use Rattle.std.proofs.Common.{◌∙◌}
-use Rattle.rc_model.specs.Numbers.{below}
+use Rattle.rc_base.specs.Numbers.{below}
 use Rattle.rc_ast.specs.Expressions.{test_seen}
 use Rattle.rc_value.specs.Scene.{scene_seen}
 use Rattle.rc_value.proofs.ComparingLemmas.{all_suited}

@@ -1,9 +1,9 @@
 use Rattle.std.proofs.Common.{length, map, slice_get, sym, ap, ◌∙◌}
 use Rattle.std.proofs.lemmas.List.{length-map}
-use Rattle.rc_sheet_model.specs.Sheet.{LocName, player_class}
-use Rattle.rc_play_model.specs.Scene.{value_in}
-use Rattle.rc_play_model.specs.Shape.{holds_references}
-use Rattle.rc_play_model.specs.Value.{cards_there, cut}
+use Rattle.rc_sheet_spec.specs.Sheet.{LocName, player_class}
+use Rattle.rc_play_spec.specs.Scene.{value_in}
+use Rattle.rc_play_spec.specs.Shape.{holds_references}
+use Rattle.rc_play_spec.specs.Value.{cards_there, cut}
 use Rattle.rc_ast.specs.Sheet.{sheet_seen}
 use Rattle.rc_rules.specs.Lookup.{place_in}
 use Rattle.rc_rules.proofs.Ranges.{place_is}

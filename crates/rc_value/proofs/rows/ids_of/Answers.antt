@@ -1,7 +1,7 @@
 use Rattle.std.proofs.Common.{map, slice_get, sym, ap, ◌∙◌}
-use Rattle.rc_play_model.specs.Scene.{id_of, value_in}
-use Rattle.rc_play_model.specs.Shape.{holds_references}
-use Rattle.rc_play_model.specs.Value.{cards_there, cut}
+use Rattle.rc_play_spec.specs.Scene.{id_of, value_in}
+use Rattle.rc_play_spec.specs.Shape.{holds_references}
+use Rattle.rc_play_spec.specs.Value.{cards_there, cut}
 use Rattle.rc_value.specs.Scene.{scene_seen}
 use Rattle.rc_value.proofs.RowLemmas.{ids_are}
 use Rattle.rc_value.proofs.rows.ids_of.Goals as goal

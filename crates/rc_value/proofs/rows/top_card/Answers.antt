@@ -1,9 +1,9 @@
 use Rattle.std.proofs.Common.{map, slice_get, option_map, sym, ap, ◌∙◌}
-use Rattle.rc_play_model.specs.Ends.{last_of}
-use Rattle.rc_play_model.specs.Scene.{value_in}
-use Rattle.rc_play_model.specs.Shape.{holds_references}
-use Rattle.rc_play_model.specs.Value.{cards_there, cut}
-use Rattle.rc_play_model.proofs.Parts.{last_map}
+use Rattle.rc_play_spec.specs.Ends.{last_of}
+use Rattle.rc_play_spec.specs.Scene.{value_in}
+use Rattle.rc_play_spec.specs.Shape.{holds_references}
+use Rattle.rc_play_spec.specs.Value.{cards_there, cut}
+use Rattle.rc_play_spec.proofs.Parts.{last_map}
 use Rattle.rc_value.specs.Scene.{scene_seen}
 use Rattle.rc_value.proofs.RowLemmas.{all_count}
 use Rattle.rc_value.proofs.rows.top_card.Goals as goal

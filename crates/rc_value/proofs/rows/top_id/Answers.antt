@@ -1,9 +1,9 @@
 use Rattle.std.proofs.Common.{ap, ◌∙◌}
-use Rattle.rc_play_model.specs.Ends.{last_of}
-use Rattle.rc_play_model.specs.Scene.{id_of}
-use Rattle.rc_play_model.specs.Value.{cards_there, cut, loc_place}
+use Rattle.rc_play_spec.specs.Ends.{last_of}
+use Rattle.rc_play_spec.specs.Scene.{id_of}
+use Rattle.rc_play_spec.specs.Value.{cards_there, cut, loc_place}
 use Rattle.rc_ast.specs.Names.{loc_seen}
-use Rattle.rc_play_model.proofs.Parts.{last_map}
+use Rattle.rc_play_spec.proofs.Parts.{last_map}
 use Rattle.rc_value.specs.Scene.{scene_seen}
 use Rattle.rc_value.proofs.rows.top_id.Goals as goal
 

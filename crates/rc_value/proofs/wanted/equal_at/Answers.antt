@@ -1,6 +1,6 @@
 use Rattle.std.proofs.Common.{ap, sym, subst, ◌∙◌}
 use Rattle.std.specs.Prelude.{IfSome, ◌≡◌}
-use Rattle.rc_play_model.specs.Value.{attr_of_any, card_value}
+use Rattle.rc_play_spec.specs.Value.{attr_of_any, card_value}
 use Rattle.rc_ast.specs.Expressions.{card_seen, test_seen}
 use Rattle.rc_value.specs.Scene.{scene_seen}
 use Rattle.rc_value.specs.Wanted.{IsFixed}

@@ -1,5 +1,5 @@
 use Rattle.std.proofs.Common.{All, sym, subst}
-use Rattle.rc_play_model.proofs.Redrawn.{all_of_map}
+use Rattle.rc_play_spec.proofs.Redrawn.{all_of_map}
 use Rattle.rc_view.specs.Seen.{sight_seen}
 use Rattle.rc_view.specs.Key.{IsShort}
 use Rattle.rc_view.proofs.key.key_bytes.Goals as goal

@@ -1,5 +1,5 @@
 use Rattle.std.proofs.Common.{◌≡◌, map, take}
-use Rattle.rc_play_model.specs.View.{known_face}
+use Rattle.rc_play_spec.specs.View.{known_face}
 use Rattle.rc_view.proofs.sight.known_numbers.Given as goal
 
 abbrev pub invariant-loop-id : goal.invariant-loop-id

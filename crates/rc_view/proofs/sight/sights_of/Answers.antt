@@ -1,6 +1,6 @@
 use Rattle.std.proofs.Common.{◌∷◌, [], ◌++◌, map, ap, ap₂, sym, ◌∙◌, subst, arith}
 use Rattle.std.proofs.lemmas.List.{map-append}
-use Rattle.rc_play_model.specs.Table.{IsSound}
+use Rattle.rc_play_spec.specs.Table.{IsSound}
 use Rattle.rc_view.specs.Seen.{sight_seen}
 use Rattle.rc_view.proofs.SightLemmas.{sights_next}
 use Rattle.rc_view.proofs.sight.sights_of.Goals as goal

@@ -1,5 +1,5 @@
 use Rattle.std.proofs.Common.{◌≡◌, map, take}
-use Rattle.rc_play_model.specs.View.{sights_of as sights_of_lists}
+use Rattle.rc_play_spec.specs.View.{sights_of as sights_of_lists}
 use Rattle.rc_view.specs.Seen.{sight_seen}
 use Rattle.rc_view.proofs.sight.sights_of.Given as goal
 

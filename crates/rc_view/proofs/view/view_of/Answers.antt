@@ -1,6 +1,6 @@
 use Rattle.std.proofs.Common.{refl, sym, subst}
-use Rattle.rc_play_model.specs.Table.{IsSound}
-use Rattle.rc_play_model.specs.View.{view_of as view_of_state}
+use Rattle.rc_play_spec.specs.Table.{IsSound}
+use Rattle.rc_play_spec.specs.View.{view_of as view_of_state}
 use Rattle.rc_rules.specs.Control.{control_seen}
 use Rattle.rc_view.specs.Key.{HasKey}
 use Rattle.rc_view.specs.Laws.{IsViewIn}

@@ -1,10 +1,10 @@
 use Rattle.std.proofs.Common.{◌≡◌, IfOk, length, map, take, rules, sym, ap, ◌∙◌, subst}
 use Rattle.std.proofs.lemmas.List.{length-map}
-use Rattle.rc_play_model.specs.Keyed.{dealing_of}
+use Rattle.rc_play_spec.specs.Keyed.{dealing_of}
 use Rattle.rc_rules.specs.Record.{pick_seen, record_seen}
 use Rattle.rc_view.specs.Seen.{view_seen}
-use Rattle.rc_log_model.specs.Log.{most_told, text_of}
-use Rattle.rc_log_model.specs.Views.{views_in}
+use Rattle.rc_log_spec.specs.Log.{most_told, text_of}
+use Rattle.rc_log_spec.specs.Views.{views_in}
 use Rattle.rc_watch.proofs.SiteLemmas.{first_stand}
 use Rattle.rc_watch.proofs.watching.log_of_record.Goals as goal
 

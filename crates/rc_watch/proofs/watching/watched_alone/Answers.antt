@@ -1,10 +1,10 @@
 use Rattle.std.proofs.Common.{◌≡◌, length, sym, subst}
-use Rattle.rc_play_model.specs.Keyed.{dealing_of}
+use Rattle.rc_play_spec.specs.Keyed.{dealing_of}
 use Rattle.rc_rules.specs.Plan.{plan_seen}
 use Rattle.rc_rules.specs.Record.{record_seen}
-use Rattle.rc_log_model.specs.Laws.{AllCount}
-use Rattle.rc_log_model.specs.Plays.{IsPlayOf}
-use Rattle.rc_log_model.specs.Views.{views_in}
+use Rattle.rc_log_spec.specs.Laws.{AllCount}
+use Rattle.rc_log_spec.specs.Plays.{IsPlayOf}
+use Rattle.rc_log_spec.specs.Views.{views_in}
 use Rattle.rc_watch.proofs.RecordLemmas.{watchable, views_count, each_viewed}
 use Rattle.rc_watch.proofs.watching.watched_alone.Goals as goal
 

@@ -1,6 +1,6 @@
 use Rattle.std.proofs.Common.{◌≡◌, IfOk, subst}
 use Rattle.rc_rules.specs.Plan.{plan_seen}
-use Rattle.rc_log_model.specs.Views.{log_of}
+use Rattle.rc_log_spec.specs.Views.{log_of}
 use Rattle.rc_watch.proofs.watching.watched_log.Goals as goal
 
 pub returns : goal.returns

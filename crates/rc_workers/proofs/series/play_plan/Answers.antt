@@ -1,10 +1,10 @@
 use Rattle.std.proofs.Common.{◌<◌, ◌≤◌, length, map, sym, ap, ◌∙◌, subst, arith}
-use Rattle.rc_play_model.specs.House.{standings_of}
+use Rattle.rc_play_spec.specs.House.{standings_of}
 use Rattle.rc_rules.specs.Plan.{plan_seen}
 use Rattle.rc_cache.specs.Memos.{shared_counts}
-use Rattle.rc_records.specs.Series.{looks_of, played_seen}
-use Rattle.rc_turns.specs.Gathered.{RiseTogether}
-use Rattle.rc_records.proofs.NamedLemmas.{all_told}
+use Rattle.rc_series.specs.Series.{looks_of, played_seen}
+use Rattle.rc_workers.specs.Gathered.{RiseTogether}
+use Rattle.rc_series.proofs.NamedLemmas.{all_told}
 use Rattle.rc_workers.proofs.LaneLemmas.{idle_count, all_looked, all_answered, some_missed}
 use Rattle.rc_workers.proofs.series.play_plan.Goals as goal
 

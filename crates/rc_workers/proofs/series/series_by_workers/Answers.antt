@@ -1,8 +1,8 @@
 use Rattle.std.proofs.Common.{◌≡◌, IfOk, map, subst}
-use Rattle.rc_play_model.specs.House.{standings_of}
+use Rattle.rc_play_spec.specs.House.{standings_of}
 use Rattle.rc_rules.specs.Plan.{plan_seen}
 use Rattle.rc_rules.specs.Record.{record_seen, standing_seen}
-use Rattle.rc_records.specs.Series.{IsTold, matches_of}
+use Rattle.rc_series.specs.Series.{IsTold, matches_of}
 use Rattle.rc_workers.proofs.series.series_by_workers.Goals as goal
 
 pub returns-clause-matches : goal.returns-clause-matches

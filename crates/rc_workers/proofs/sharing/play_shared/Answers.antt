@@ -9,8 +9,8 @@ use Rattle.rc_code.specs.Seen.{code_seen}
 use Rattle.rc_code.specs.Stands.{StandsFor}
 use Rattle.rc_cache.specs.Memos.{shared_counts}
 use Rattle.rc_cache.specs.Sums.{Lane}
-use Rattle.rc_records.specs.Series.{looks_of}
-use Rattle.rc_turns.specs.Gathered.{RiseTogether}
+use Rattle.rc_series.specs.Series.{looks_of}
+use Rattle.rc_workers.specs.Gathered.{RiseTogether}
 use Rattle.rc_workers.proofs.LaneLemmas.{all_so, map_twice}
 use Rattle.rc_workers.proofs.SharedBooks.{choices_send, memo_send}
 use Rattle.rc_workers.proofs.sharing.play_shared.Goals as goal

@@ -1,6 +1,6 @@
 use Rattle.std.proofs.Common.{◌≡◌, ◌+◌, length, map, ap, ◌∙◌, subst, arith}
 use Rattle.std.proofs.lemmas.List.{length-map}
-use Rattle.rc_play_model.specs.Tally.{tally as tally_of}
+use Rattle.rc_play_spec.specs.Tally.{tally as tally_of}
 use Rattle.rc_redraw.specs.Asking.{key_seen}
 use Rattle.rc_redraw.specs.Counts.{looked}
 use Rattle.rc_redraw.specs.Reply.{IfHit}

@@ -1,6 +1,6 @@
 use Rattle.std.proofs.Common.{rules, ◌≤◌, ◌+◌, arith, subst}
 use Rattle.std.specs.List.Sorted.{IsPermutation}
-use Rattle.rc_model.specs.Numbers.{below}
+use Rattle.rc_base.specs.Numbers.{below}
 use Rattle.rc_claims.proofs.ClaimLemmas.{closed_with}
 use Rattle.rc_claims.proofs.claims.Claims.close.Goals as goal
 

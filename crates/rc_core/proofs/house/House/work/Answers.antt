@@ -1,5 +1,5 @@
 use Rattle.std.proofs.Common.{◌≡◌, OnOk, rules, refl, sym, ap, subst}
-use Rattle.rc_play_model.specs.About.{About}
+use Rattle.rc_play_spec.specs.About.{About}
 use Rattle.rc_rules.specs.Plan.{plan_seen}
 use Rattle.rc_code.specs.Seen.{code_seen}
 use Rattle.rc_code.specs.Stands.{StandsFor}

@@ -1,15 +1,15 @@
 use Rattle.std.proofs.Common.{◌≡◌, Bool, true, ap, sym, refl, ◌∙◌, subst, rules, Some, IsSome}
-use Rattle.rc_play_model.specs.Stop.{stop_of}
-use Rattle.rc_play_model.proofs.StopLemmas.{steps_less, step_keeps, stop_here}
+use Rattle.rc_play_spec.specs.Stop.{stop_of}
+use Rattle.rc_play_spec.proofs.StopLemmas.{steps_less, step_keeps, stop_here}
 use Rattle.rc_rules.specs.Control.{stop_seen}
 use Rattle.rc_rules.specs.Machine.{IsWhereItStops}
 use Rattle.rc_code.specs.Seen.{list_seen}
-use Rattle.rc_board.specs.Undo.{Keeps}
-use Rattle.rc_board.proofs.KeepsLemmas.{keeps_then}
-use Rattle.rc_stand.specs.State.{config_at, next_seen}
-use Rattle.rc_stand.specs.declared.state.State.{State}
-use Rattle.rc_stand.proofs.KeptLemmas.{stands_there}
-use Rattle.rc_doing.proofs.ShuffleLemmas.{shuffled_then}
+use Rattle.rc_undo.specs.Undo.{Keeps}
+use Rattle.rc_undo.proofs.KeepsLemmas.{keeps_then}
+use Rattle.rc_flat.specs.State.{config_at, next_seen}
+use Rattle.rc_flat.specs.declared.state.State.{State}
+use Rattle.rc_flat.proofs.KeptLemmas.{stands_there}
+use Rattle.rc_exec.proofs.ShuffleLemmas.{shuffled_then}
 use Rattle.rc_flat.specs.Machine.{Machine, KeepsTables}
 use Rattle.rc_flat.specs.MachineSeen.{machine_seen}
 use Rattle.rc_flat.specs.declared.machine.FlatMachine.TheInside.{Inside}

@@ -1,9 +1,9 @@
 use Rattle.std.proofs.Common.{◌≡◌}
-use Rattle.rc_play_model.specs.Stop.{stop_of, effort}
+use Rattle.rc_play_spec.specs.Stop.{stop_of, effort}
 use Rattle.rc_rules.specs.Dealer.{HasShuffled}
 use Rattle.rc_code.specs.Seen.{list_seen}
-use Rattle.rc_board.specs.Undo.{Keeps}
-use Rattle.rc_stand.specs.State.{IsReady, config_at}
+use Rattle.rc_undo.specs.Undo.{Keeps}
+use Rattle.rc_flat.specs.State.{IsReady, config_at}
 use Rattle.rc_flat.proofs.calls.FlatMachineMachine.advance.Given as goal
 
 abbrev pub invariant-loop-next : goal.invariant-loop-next

@@ -1,7 +1,7 @@
 use Rattle.std.proofs.Common.{◌≡◌, ◌<◌, false, length, rules, sym, ap, ◌∙◌, subst}
 use Rattle.rc_rules.specs.Machine.{menu_here}
 use Rattle.rc_code.specs.Seen.{list_seen}
-use Rattle.rc_stand.specs.State.{config_at}
+use Rattle.rc_flat.specs.State.{config_at}
 use Rattle.rc_flat.specs.Machine.{Machine}
 use Rattle.rc_flat.proofs.calls.FlatMachineMachine.apply.Goals as goal
 

@@ -2,7 +2,7 @@ use Rattle.std.proofs.Common.{◌≡◌, ◌<◌, length, rules, sym, ap, ◌∙
 use Rattle.rc_rules.specs.Machine.{bounds_here, menu_here}
 use Rattle.rc_code.specs.Seen.{list_seen}
 use Rattle.rc_code.specs.declared.code.Code.{Code}
-use Rattle.rc_stand.specs.State.{config_at}
+use Rattle.rc_flat.specs.State.{config_at}
 use Rattle.rc_flat.specs.Machine.{Machine}
 use Rattle.rc_flat.proofs.calls.FlatMachineMachine.bounds.Goals as goal
 

@@ -2,7 +2,7 @@ use Rattle.std.proofs.Common.{ap, ◌∙◌, length, sym, subst}
 use Rattle.rc_rules.specs.Machine.{StopsAtDecision, menu_here}
 use Rattle.rc_code.specs.Seen.{list_seen}
 use Rattle.rc_flat.specs.Machine.{Machine}
-use Rattle.rc_stand.proofs.KeptLemmas.{so_many}
+use Rattle.rc_flat.proofs.KeptLemmas.{so_many}
 use Rattle.rc_flat.proofs.calls.FlatMachineMachine.menu_size.Goals as goal
 
 pub returns-clause-count : goal.returns-clause-count

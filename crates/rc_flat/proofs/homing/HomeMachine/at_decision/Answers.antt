@@ -1,14 +1,14 @@
 use Rattle.std.proofs.Common.{◌≡◌, rules, sym, ap, ◌∙◌, subst}
-use Rattle.rc_play_model.specs.Decision.{at_site}
+use Rattle.rc_play_spec.specs.Decision.{at_site}
 use Rattle.rc_rules.specs.Control.{control_seen}
 use Rattle.rc_code.specs.Seen.{list_seen, code_seen}
 use Rattle.rc_code.specs.declared.code.Code.{Code}
-use Rattle.rc_board.specs.Undo.{Kept}
-use Rattle.rc_stand.specs.Flat.{config_of, flat_from}
-use Rattle.rc_stand.specs.Moments.{IsInMatch}
+use Rattle.rc_undo.specs.Undo.{Kept}
+use Rattle.rc_flat.specs.Flat.{config_of, flat_from}
+use Rattle.rc_flat.specs.MarkedMoments.{IsInMatch}
 use Rattle.rc_flat.specs.Home.{config_at_home, IsHome}
-use Rattle.rc_stand.specs.declared.stand.Stand.{Stand}
-use Rattle.rc_stand.proofs.SitePlaceLemmas.{HasPlace, IsPlaceOf, decision_has}
+use Rattle.rc_flat.specs.declared.stand.Stand.{Stand}
+use Rattle.rc_flat.proofs.SitePlaceLemmas.{HasPlace, IsPlaceOf, decision_has}
 use Rattle.rc_flat.proofs.HomeLemmas.{is_at_site, home_made, home_here}
 use Rattle.rc_flat.proofs.homing.HomeMachine.at_decision.Goals as goal
 

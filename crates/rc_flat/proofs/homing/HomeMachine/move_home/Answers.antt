@@ -1,9 +1,9 @@
 use Rattle.std.proofs.Common.{◌≡◌, Some, IsSome, refl, sym, ap, ◌∙◌, subst}
-use Rattle.rc_play_model.specs.Decision.{at_site}
+use Rattle.rc_play_spec.specs.Decision.{at_site}
 use Rattle.rc_rules.specs.Control.{control_seen}
 use Rattle.rc_rules.specs.Machine.{CanDecide}
 use Rattle.rc_flat.specs.Home.{Homing, IsHome, config_at_home}
-use Rattle.rc_stand.specs.declared.stand.Stand.{Stand}
+use Rattle.rc_flat.specs.declared.stand.Stand.{Stand}
 use Rattle.rc_flat.proofs.HomeLemmas.{home_made, home_here}
 use Rattle.rc_flat.proofs.homing.HomeMachine.move_home.Goals as goal
 

@@ -2,10 +2,10 @@ use Rattle.std.proofs.Common.{◌≡◌, rules, sym, ap, ◌∙◌, subst}
 use Rattle.rc_rules.specs.Control.{control_seen}
 use Rattle.rc_code.specs.Seen.{list_seen, code_seen}
 use Rattle.rc_code.specs.declared.code.Code.{Code}
-use Rattle.rc_board.specs.Undo.{Kept}
-use Rattle.rc_stand.specs.Flat.{config_of, flat_from}
-use Rattle.rc_stand.specs.Moments.{IsInMatch}
-use Rattle.rc_stand.proofs.SitePlaceLemmas.{HasPlace, IsPlaceOf, decision_has, decision_match}
+use Rattle.rc_undo.specs.Undo.{Kept}
+use Rattle.rc_flat.specs.Flat.{config_of, flat_from}
+use Rattle.rc_flat.specs.MarkedMoments.{IsInMatch}
+use Rattle.rc_flat.proofs.SitePlaceLemmas.{HasPlace, IsPlaceOf, decision_has, decision_match}
 use Rattle.rc_flat.proofs.machine.FlatMachine.at_decision.Goals as goal
 
 pub place_of-place-requires : goal.place_of-place-requires

@@ -1,7 +1,7 @@
 use Rattle.std.proofs.Common.{◌≡◌, rules, sym, subst}
 use Rattle.rc_code.specs.Seen.{list_seen, code_seen}
 use Rattle.rc_code.specs.Implements.{Implements}
-use Rattle.rc_stand.specs.State.{IsReady}
+use Rattle.rc_flat.specs.State.{IsReady}
 use Rattle.rc_flat.proofs.machine.FlatMachine.at_place.Goals as goal
 
 pub refill-requires-clause-implements : goal.refill-requires-clause-implements

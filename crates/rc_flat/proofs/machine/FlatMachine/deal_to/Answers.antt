@@ -1,5 +1,5 @@
 use Rattle.std.proofs.Common.{sym, ap, ◌∙◌}
-use Rattle.rc_play_model.specs.About.{About}
+use Rattle.rc_play_spec.specs.About.{About}
 use Rattle.rc_flat.specs.Moments.{with_table}
 use Rattle.rc_flat.proofs.GoingLemmas.{dealt_then}
 use Rattle.rc_flat.proofs.machine.FlatMachine.deal_to.Goals as goal

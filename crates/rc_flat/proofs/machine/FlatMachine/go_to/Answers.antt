@@ -1,7 +1,7 @@
 use Rattle.std.proofs.Common.{IsSome, refl, sym, ap, ◌∙◌, subst}
 use Rattle.rc_code.specs.Seen.{list_seen}
-use Rattle.rc_board.specs.Undo.{Kept}
-use Rattle.rc_stand.specs.declared.state.State.{State}
+use Rattle.rc_undo.specs.Undo.{Kept}
+use Rattle.rc_flat.specs.declared.state.State.{State}
 use Rattle.rc_flat.specs.Machine.{Machine}
 use Rattle.rc_flat.specs.Moments.{IsMoment}
 use Rattle.rc_flat.proofs.GoingLemmas.{config_then, ready_then}

@@ -1,10 +1,10 @@
 use Rattle.std.proofs.Common.{sym, ap, ◌∙◌, subst, arith}
 use Rattle.rc_code.specs.Seen.{list_seen}
-use Rattle.rc_stand.specs.Flat.{config_of}
+use Rattle.rc_flat.specs.Flat.{config_of}
 use Rattle.rc_flat.specs.Machine.{Machine}
-use Rattle.rc_stand.specs.Moments.{IsInMatch}
+use Rattle.rc_flat.specs.MarkedMoments.{IsInMatch}
 use Rattle.rc_flat.specs.Marks.{IsMark}
-use Rattle.rc_stand.proofs.MomentLemmas.{in_match, marked_here}
+use Rattle.rc_flat.proofs.MomentLemmas.{in_match, marked_here}
 use Rattle.rc_flat.proofs.machine.FlatMachine.mark.Goals as goal
 
 pub returns-clause-now : goal.returns-clause-now

@@ -1,12 +1,12 @@
 use Rattle.std.proofs.Common.{◌≡◌, IsSome, rules, sym, ap, ◌∙◌, subst}
 use Rattle.rc_rules.specs.Control.{control_seen}
 use Rattle.rc_code.specs.Seen.{list_seen}
-use Rattle.rc_board.specs.Undo.{Kept}
-use Rattle.rc_stand.specs.Flat.{config_of, flat_from}
-use Rattle.rc_stand.specs.State.{flat_of}
-use Rattle.rc_stand.specs.Moments.{IsInMatch}
+use Rattle.rc_undo.specs.Undo.{Kept}
+use Rattle.rc_flat.specs.Flat.{config_of, flat_from}
+use Rattle.rc_flat.specs.State.{flat_of}
+use Rattle.rc_flat.specs.MarkedMoments.{IsInMatch}
 use Rattle.rc_flat.specs.Machine.{Machine}
-use Rattle.rc_stand.proofs.MomentLemmas.{config_same}
+use Rattle.rc_flat.proofs.MomentLemmas.{config_same}
 use Rattle.rc_flat.proofs.machine.FlatMachine.stand_at.Goals as goal
 
 pub refill-requires-clause-on : goal.refill-requires-clause-on

@@ -1,11 +1,11 @@
 use Rattle.std.proofs.Common.{refl, sym, ap, subst}
-use Rattle.rc_play_model.specs.Control.{Control}
+use Rattle.rc_play_spec.specs.Control.{Control}
 use Rattle.rc_table.specs.Laid.{Laid}
 use Rattle.rc_rules.specs.Control.{control_seen}
 use Rattle.rc_value.specs.Current.{IsCurrent}
 use Rattle.rc_code.specs.Seen.{list_seen, code_seen}
 use Rattle.rc_code.specs.Implements.{Implements}
-use Rattle.rc_stand.proofs.StartLemmas.{start_ready}
+use Rattle.rc_flat.proofs.StartLemmas.{start_ready}
 use Rattle.rc_flat.proofs.machine.FlatMachine.with_opening.Goals as goal
 
 pub invariant_of-result : goal.invariant_of-result

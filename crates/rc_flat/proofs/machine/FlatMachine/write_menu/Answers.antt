@@ -1,5 +1,5 @@
 use Rattle.std.proofs.Common.{ap, ◌∙◌}
-use Rattle.rc_play_model.specs.About.{menu_at}
+use Rattle.rc_play_spec.specs.About.{menu_at}
 use Rattle.rc_flat.specs.Machine.{Machine}
 use Rattle.rc_flat.proofs.machine.FlatMachine.write_menu.Goals as goal
 

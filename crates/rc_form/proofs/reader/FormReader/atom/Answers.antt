@@ -2,12 +2,12 @@ use Rattle.std.proofs.Common.{◌≡◌, ◌<◌, ◌≤◌, ◌+◌, length, dr
 use Rattle.rc_form.proofs.Tokens.{taken_front, parts-atom_front, tokens_at-atom}
 use Rattle.rc_form.proofs.ReadSteps.{read_atom}
 use Rattle.std.proofs.lemmas.List.{length-reverse, length-map}
-use Rattle.rc_model.specs.Tree.{word}
+use Rattle.rc_base.specs.Tree.{word}
 use Rattle.rc_form.specs.Form.{tree_of, trees_of}
 use Rattle.rc_form.specs.Read.{read_with}
 use Rattle.rc_form.specs.Lexer.{tokens_at}
 use Rattle.rc_form.specs.Reader.{pending_of}
-use Rattle.rc_model.specs.Token.{atom_front}
+use Rattle.rc_base.specs.Token.{atom_front}
 use Rattle.rc_form.proofs.reader.FormReader.atom.Goals as goal
 
 pub of-word-requires-clause-parts : goal.of-word-requires-clause-parts

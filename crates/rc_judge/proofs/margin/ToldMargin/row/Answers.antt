@@ -1,9 +1,9 @@
 use Rattle.std.proofs.Common.{rules, ◌≡◌, ◌∷◌, Bool, Some, sym, ap, ◌∙◌}
 use Rattle.std.specs.Cmp.Lexicographic.{pointwise}
-use Rattle.rc_text_model.specs.Bounds.{are_bounds}
-use Rattle.rc_text_model.specs.HouseText.{first_marks}
-use Rattle.rc_text_model.specs.Rows.{unless}
-use Rattle.rc_text_model.specs.Why.{by_name}
+use Rattle.rc_play_spec.specs.Bounds.{are_bounds}
+use Rattle.rc_play_spec.specs.HouseText.{first_marks}
+use Rattle.rc_play_spec.specs.Rows.{unless}
+use Rattle.rc_play_spec.specs.Why.{by_name}
 use Rattle.rc_rules.specs.Bounds.{bounds_seen}
 use Rattle.rc_rules.specs.Machine.{bounds_here}
 use Rattle.rc_rules.specs.contracts.bound.BoundPartialEq.TheImpl.{eq-value}

@@ -1,12 +1,12 @@
 use Rattle.std.proofs.Common.{List, length, Some, ap, sym, ◌∙◌, ◌<◌, subst, arith}
 use Rattle.std.specs.Prelude.{unwrap_or}
-use Rattle.rc_sheet_model.specs.Sheet.{choice}
-use Rattle.rc_play_model.specs.About.{menu_at}
-use Rattle.rc_play_model.specs.Menu.{alts_at}
-use Rattle.rc_play_model.specs.Step.{Part}
-use Rattle.rc_play_model.specs.Decision.{left_at}
-use Rattle.rc_play_model.specs.Fits.{FitsSite}
-use Rattle.rc_play_model.proofs.SiteLemmas.{same_site, some_alts}
+use Rattle.rc_sheet_spec.specs.Sheet.{choice}
+use Rattle.rc_play_spec.specs.About.{menu_at}
+use Rattle.rc_play_spec.specs.Menu.{alts_at}
+use Rattle.rc_play_spec.specs.Step.{Part}
+use Rattle.rc_play_spec.specs.Decision.{left_at}
+use Rattle.rc_play_spec.specs.Fits.{FitsSite}
+use Rattle.rc_play_spec.proofs.SiteLemmas.{same_site, some_alts}
 use Rattle.rc_rules.specs.Control.{control_seen}
 use Rattle.rc_plain.specs.Plain.{Plain}
 use Rattle.rc_plain.specs.State.{KeepsMenu}

@@ -1,5 +1,5 @@
 use Rattle.std.proofs.Common.{ap}
-use Rattle.rc_play_model.specs.Control.{Control}
+use Rattle.rc_play_spec.specs.Control.{Control}
 use Rattle.rc_table.specs.Laid.{Laid}
 use Rattle.rc_rules.specs.Control.{control_seen}
 use Rattle.rc_plain.proofs.MachineLemmas.{start_ready}

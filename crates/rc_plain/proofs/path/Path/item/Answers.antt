@@ -1,6 +1,6 @@
 use Rattle.std.proofs.Common.{ap, ◌∙◌, map, slice_get}
 use Rattle.rc_ast.specs.Items.{item_seen}
-use Rattle.rc_play_model.specs.Path.{body_at}
+use Rattle.rc_play_spec.specs.Path.{body_at}
 use Rattle.rc_plain.specs.Paths.{item_at}
 use Rattle.rc_plain.proofs.StageLemmas.{items_are}
 use Rattle.rc_plain.proofs.path.Path.item.Goals as goal

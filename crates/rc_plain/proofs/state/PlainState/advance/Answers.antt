@@ -1,6 +1,6 @@
 use Rattle.std.proofs.Common.{ap, sym, refl, ◌∙◌, Some}
-use Rattle.rc_play_model.specs.Stop.{stop_of}
-use Rattle.rc_play_model.proofs.StopLemmas.{steps_less, step_keeps, stop_here}
+use Rattle.rc_play_spec.specs.Stop.{stop_of}
+use Rattle.rc_play_spec.proofs.StopLemmas.{steps_less, step_keeps, stop_here}
 use Rattle.rc_rules.specs.Control.{stop_seen}
 use Rattle.rc_plain.specs.State.{config_at, next_seen, plain_of}
 use Rattle.rc_plain.proofs.MachineLemmas.{stands_there}

@@ -1,5 +1,5 @@
 use Rattle.std.proofs.Common.{◌≡◌}
-use Rattle.rc_play_model.specs.Stop.{stop_of, effort}
+use Rattle.rc_play_spec.specs.Stop.{stop_of, effort}
 use Rattle.rc_plain.specs.State.{IsReady, config_at}
 use Rattle.rc_plain.proofs.state.PlainState.advance.Given as goal
 

@@ -1,5 +1,5 @@
 use Rattle.std.proofs.Common.{ap, sym, ◌∙◌, ◌<◌, subst, Some}
-use Rattle.rc_sheet_model.specs.Sheet.{choice}
+use Rattle.rc_sheet_spec.specs.Sheet.{choice}
 use Rattle.rc_ast.specs.Items.{alts_seen}
 use Rattle.rc_plain.proofs.KeptLemmas.{so_many, item_kept}
 use Rattle.rc_plain.proofs.state.PlainState.apply.Goals as goal

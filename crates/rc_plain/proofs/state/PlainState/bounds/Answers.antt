@@ -1,6 +1,6 @@
 use Rattle.std.proofs.Common.{Some, slice_index_or, ap, sym, ◌∙◌, ◌<◌, length, subst, refl, arith}
-use Rattle.rc_sheet_model.specs.Sheet.{choice}
-use Rattle.rc_sheet_model.specs.WellFormed.{outside}
+use Rattle.rc_sheet_spec.specs.Sheet.{choice}
+use Rattle.rc_sheet_spec.specs.WellFormed.{outside}
 use Rattle.rc_ast.specs.Items.{alts_seen}
 use Rattle.rc_plain.proofs.KeptLemmas.{so_many}
 use Rattle.rc_plain.proofs.NamingLemmas.{bounds_kept}

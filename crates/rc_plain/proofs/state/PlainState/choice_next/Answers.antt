@@ -1,11 +1,11 @@
 use Rattle.std.proofs.Common.{ap, sym, ◌∙◌, length, Some, subst, arith}
 use Rattle.std.proofs.lemmas.Bool.{eqb-true, eqb-false}
 use Rattle.std.proofs.lemmas.List.{length-map}
-use Rattle.rc_sheet_model.specs.Sheet.{choice}
-use Rattle.rc_play_model.specs.Menu.{menu_from}
-use Rattle.rc_play_model.specs.About.{scene_at, menu_at}
-use Rattle.rc_play_model.specs.Step.{goes}
-use Rattle.rc_play_model.specs.Path.{stage_in}
+use Rattle.rc_sheet_spec.specs.Sheet.{choice}
+use Rattle.rc_play_spec.specs.Menu.{menu_from}
+use Rattle.rc_play_spec.specs.About.{scene_at, menu_at}
+use Rattle.rc_play_spec.specs.Step.{goes}
+use Rattle.rc_play_spec.specs.Path.{stage_in}
 use Rattle.rc_ast.specs.Items.{alts_seen}
 use Rattle.rc_rules.specs.Menu.{item_seen}
 use Rattle.rc_plain.specs.Paths.{IsPath}

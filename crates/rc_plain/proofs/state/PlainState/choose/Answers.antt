@@ -1,16 +1,16 @@
 use Rattle.std.proofs.Common.{ap, sym, ◌∙◌, ◌≤◌, subst, refl, arith, All, []}
-use Rattle.rc_sheet_model.specs.WellFormed.{outside}
-use Rattle.rc_play_model.specs.Control.{Control}
-use Rattle.rc_play_model.specs.Owners.{mover}
-use Rattle.rc_play_model.specs.About.{scene_at}
-use Rattle.rc_play_model.specs.Menu.{Item, alt_in, effects_of, bindings_of}
-use Rattle.rc_play_model.specs.Effects.{does}
-use Rattle.rc_play_model.specs.Step.{goes}
-use Rattle.rc_play_model.specs.Path.{stage_in, past}
+use Rattle.rc_sheet_spec.specs.WellFormed.{outside}
+use Rattle.rc_play_spec.specs.Control.{Control}
+use Rattle.rc_play_spec.specs.Owners.{mover}
+use Rattle.rc_play_spec.specs.About.{scene_at}
+use Rattle.rc_play_spec.specs.Menu.{Item, alt_in, effects_of, bindings_of}
+use Rattle.rc_play_spec.specs.Effects.{does}
+use Rattle.rc_play_spec.specs.Step.{goes}
+use Rattle.rc_play_spec.specs.Path.{stage_in, past}
 use Rattle.rc_ast.specs.Items.{alts_seen}
-use Rattle.rc_play_model.proofs.CountLemmas.{one_decision_counts}
+use Rattle.rc_play_spec.proofs.CountLemmas.{one_decision_counts}
 use Rattle.rc_rules.specs.Control.{control_seen, frames_seen}
-use Rattle.rc_state.specs.Point.{point_of}
+use Rattle.rc_value.specs.Point.{point_of}
 use Rattle.rc_plain.specs.Paths.{IsPath}
 use Rattle.rc_plain.specs.Plain.{config_of}
 use Rattle.rc_plain.specs.State.{plain_of}

@@ -1,7 +1,7 @@
 use Rattle.std.proofs.Common.{ap, ◌∙◌, ◌<◌, ◌≤◌, subst}
-use Rattle.rc_play_model.specs.Owners.{mover}
-use Rattle.rc_play_model.specs.Menu.{alts_at}
-use Rattle.rc_play_model.specs.Path.{stage_in}
+use Rattle.rc_play_spec.specs.Owners.{mover}
+use Rattle.rc_play_spec.specs.Menu.{alts_at}
+use Rattle.rc_play_spec.specs.Path.{stage_in}
 use Rattle.rc_rules.specs.Control.{frames_seen}
 use Rattle.rc_plain.specs.State.{plain_of}
 use Rattle.rc_plain.proofs.PathLemmas.{not_round}

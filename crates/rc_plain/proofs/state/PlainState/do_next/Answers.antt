@@ -1,11 +1,11 @@
 use Rattle.std.proofs.Common.{ap, sym, ◌∙◌, length, subst, refl, arith}
-use Rattle.rc_sheet_model.specs.WellFormed.{outside}
-use Rattle.rc_play_model.specs.Effects.{does}
-use Rattle.rc_play_model.specs.Step.{goes, with_frames}
-use Rattle.rc_play_model.specs.Path.{stage_in}
+use Rattle.rc_sheet_spec.specs.WellFormed.{outside}
+use Rattle.rc_play_spec.specs.Effects.{does}
+use Rattle.rc_play_spec.specs.Step.{goes, with_frames}
+use Rattle.rc_play_spec.specs.Path.{stage_in}
 use Rattle.rc_ast.specs.Effects.{effects_seen}
 use Rattle.rc_rules.specs.Control.{frames_seen}
-use Rattle.rc_state.specs.Point.{point_of}
+use Rattle.rc_value.specs.Point.{point_of}
 use Rattle.rc_plain.specs.Paths.{IsPath}
 use Rattle.rc_plain.specs.Plain.{config_of}
 use Rattle.rc_plain.specs.State.{plain_of}

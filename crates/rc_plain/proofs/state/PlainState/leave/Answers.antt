@@ -1,9 +1,9 @@
 use Rattle.std.proofs.Common.{ap, sym, ◌∙◌, subst, refl}
 use Rattle.rc_deck.proofs.EachLemmas.{past_end}
-use Rattle.rc_sheet_model.specs.Lists.{item_list}
-use Rattle.rc_sheet_model.specs.WellFormed.{owner_count}
-use Rattle.rc_play_model.specs.Step.{with_frames, passed}
-use Rattle.rc_play_model.specs.Path.{stage_in, body_at}
+use Rattle.rc_sheet_spec.specs.Lists.{item_list}
+use Rattle.rc_sheet_spec.specs.WellFormed.{owner_count}
+use Rattle.rc_play_spec.specs.Step.{with_frames, passed}
+use Rattle.rc_play_spec.specs.Path.{stage_in, body_at}
 use Rattle.rc_rules.specs.Control.{frames_seen}
 use Rattle.rc_plain.specs.Paths.{Leaves}
 use Rattle.rc_plain.specs.State.{plain_of}

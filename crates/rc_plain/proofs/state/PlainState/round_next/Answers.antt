@@ -1,9 +1,9 @@
 use Rattle.std.proofs.Common.{ap, sym, ◌∙◌, ◌<◌, subst, refl, arith}
-use Rattle.rc_sheet_model.specs.WellFormed.{outside}
-use Rattle.rc_play_model.specs.Step.{Stage, goes, with_frames, one_turn_more}
-use Rattle.rc_play_model.specs.Path.{stage_in}
+use Rattle.rc_sheet_spec.specs.WellFormed.{outside}
+use Rattle.rc_play_spec.specs.Step.{Stage, goes, with_frames, one_turn_more}
+use Rattle.rc_play_spec.specs.Path.{stage_in}
 use Rattle.rc_ast.specs.Expressions.{test_seen}
-use Rattle.rc_play_model.proofs.CountLemmas.{one_turn_counts}
+use Rattle.rc_play_spec.proofs.CountLemmas.{one_turn_counts}
 use Rattle.rc_rules.specs.Control.{frames_seen}
 use Rattle.rc_plain.specs.Paths.{IsPath}
 use Rattle.rc_plain.specs.Plain.{config_of}

@@ -1,8 +1,8 @@
 use Rattle.std.proofs.Common.{ap, sym, ◌∙◌, subst, refl, arith}
 use Rattle.std.proofs.lemmas.List.{length-map}
-use Rattle.rc_sheet_model.specs.Sheet.{stage}
-use Rattle.rc_play_model.specs.Step.{Stage, goes, with_frames}
-use Rattle.rc_play_model.specs.Path.{stage_in}
+use Rattle.rc_sheet_spec.specs.Sheet.{stage}
+use Rattle.rc_play_spec.specs.Step.{Stage, goes, with_frames}
+use Rattle.rc_play_spec.specs.Path.{stage_in}
 use Rattle.rc_ast.specs.Expressions.{test_seen}
 use Rattle.rc_rules.specs.Control.{frames_seen, frame_seen}
 use Rattle.rc_plain.specs.Paths.{IsPath}

@@ -1,5 +1,5 @@
 use Rattle.std.proofs.Common.{◌≡◌, subst}
-use Rattle.rc_play_model.specs.Tally.{tally as tally_of}
+use Rattle.rc_play_spec.specs.Tally.{tally as tally_of}
 use Rattle.rc_redraw.proofs.entry.Entry.tally.Goals as goal
 
 pub returns : goal.returns

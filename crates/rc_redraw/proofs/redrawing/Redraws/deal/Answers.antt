@@ -1,8 +1,8 @@
 use Rattle.std.proofs.Common.{◌≡◌, ◌≤◌, length, ap, sym, ◌∙◌, subst, arith}
-use Rattle.rc_play_model.specs.Draws.{permuted}
-use Rattle.rc_play_model.specs.Redraw.{redrawn, mems_of, seen_faces, seen_of}
-use Rattle.rc_play_model.specs.Table.{IsSound}
-use Rattle.rc_play_model.specs.View.{view_of}
+use Rattle.rc_play_spec.specs.Draws.{permuted}
+use Rattle.rc_play_spec.specs.Redraw.{redrawn, mems_of, seen_faces, seen_of}
+use Rattle.rc_play_spec.specs.Table.{IsSound}
+use Rattle.rc_play_spec.specs.View.{view_of}
 use Rattle.rc_table.specs.Laid.{Laid}
 use Rattle.rc_view.specs.Seen.{view_seen}
 use Rattle.rc_redraw.specs.Hiding.{blended, blanks}

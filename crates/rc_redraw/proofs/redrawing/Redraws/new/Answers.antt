@@ -1,17 +1,17 @@
 use Rattle.std.proofs.Common.{◌<◌, arith, All, ◌≡◌, ℕ, List, [], ◌∙◌, sym, ap, ap₂, subst, length, map}
 use Rattle.std.proofs.lemmas.List.{length-map}
-use Rattle.rc_play_model.specs.Redraw.{mems_of, seen_faces, seen_ids, seen_of, unused, hidden_count, filled, peeked, marks_for, marks_seen, redrawn}
-use Rattle.rc_play_model.specs.Smallest.{AreEnough}
-use Rattle.rc_play_model.specs.Shape.{Shape}
-use Rattle.rc_play_model.specs.Table.{IsSound}
+use Rattle.rc_play_spec.specs.Redraw.{mems_of, seen_faces, seen_ids, seen_of, unused, hidden_count, filled, peeked, marks_for, marks_seen, redrawn}
+use Rattle.rc_play_spec.specs.Smallest.{AreEnough}
+use Rattle.rc_play_spec.specs.Shape.{Shape}
+use Rattle.rc_play_spec.specs.Table.{IsSound}
 use Rattle.rc_table.specs.Laid.{Laid}
 use Rattle.rc_view.specs.Seen.{sight_seen, view_seen}
 use Rattle.rc_view.specs.declared.sight.Sight.{Sight}
 use Rattle.rc_table.specs.Marks.{seats_in}
 use Rattle.rc_redraw.specs.Hiding.{hiding_from, patterns}
 use Rattle.rc_redraw.proofs.Anew.{ascending_sound}
-use Rattle.rc_play_model.proofs.Counting.{same, passing-is}
-use Rattle.rc_play_model.proofs.Ids.{seen_ids-within}
+use Rattle.rc_play_spec.proofs.Counting.{same, passing-is}
+use Rattle.rc_play_spec.proofs.Ids.{seen_ids-within}
 use Rattle.rc_redraw.proofs.Laying.{knowing-player}
 use Rattle.rc_redraw.proofs.FillSteps.{each_seen}
 use Rattle.rc_redraw.proofs.redrawing.Redraws.new.Goals as goal

@@ -1,4 +1,4 @@
-use Rattle.rc_reading.specs.ReadItems.{items_at, score_at, body_at}
+use Rattle.rc_sheet.specs.ReadItems.{items_at, score_at, body_at}
 use Rattle.rc_sheet.proofs.Means.{means_so}
 use Rattle.rc_sheet.proofs.ReadOff.Items.{items_mean, score_means, body_means}
 use Rattle.rc_sheet.proofs.laws.reading.body_stands.Goals as goal

@@ -1,4 +1,4 @@
-use Rattle.rc_reading.specs.ReadEffects.{spot_at, effect_at, effects_at, domain_at, alt_at, alts_at}
+use Rattle.rc_sheet.specs.ReadEffects.{spot_at, effect_at, effects_at, domain_at, alt_at, alts_at}
 use Rattle.rc_sheet.proofs.Means.{means_so}
 use Rattle.rc_sheet.proofs.ReadOff.Effects.{spot_means, effect_means, effects_mean, domain_means, alt_means, alts_mean}
 use Rattle.rc_sheet.proofs.laws.reading.effects_stand.Goals as goal

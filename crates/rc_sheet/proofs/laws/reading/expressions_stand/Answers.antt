@@ -1,4 +1,4 @@
-use Rattle.rc_reading.specs.ReadExpressions.{card_at, coll_at, colls_at, int_at, test_at, tests_at, range_at}
+use Rattle.rc_sheet.specs.ReadExpressions.{card_at, coll_at, colls_at, int_at, test_at, tests_at, range_at}
 use Rattle.rc_sheet.proofs.Means.{means_so}
 use Rattle.rc_sheet.proofs.ReadOff.Expressions.{card_means, coll_means, colls_mean, int_means, test_means, tests_mean, range_means}
 use Rattle.rc_sheet.proofs.laws.reading.expressions_stand.Goals as goal

@@ -1,4 +1,4 @@
-use Rattle.rc_reading.specs.ReadNames.{name_at, binder_at, variable_in, owner_at, holder_at, loc_at, loc_parts, num_at}
+use Rattle.rc_sheet.specs.ReadNames.{name_at, binder_at, variable_in, owner_at, holder_at, loc_at, loc_parts, num_at}
 use Rattle.rc_sheet.proofs.Means.{means_so}
 use Rattle.rc_sheet.proofs.ReadOff.Names.{name_means, binder_means, variable_means, owner_means, holder_means, loc_means, loc_parts_mean, num_means}
 use Rattle.rc_sheet.proofs.laws.reading.names_stand.Goals as goal

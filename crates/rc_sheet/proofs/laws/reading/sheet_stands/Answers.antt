@@ -1,4 +1,4 @@
-use Rattle.rc_reading.specs.ReadSheet.{sheet_at}
+use Rattle.rc_sheet.specs.ReadSheet.{sheet_at}
 use Rattle.rc_sheet.proofs.Means.{means_so}
 use Rattle.rc_sheet.proofs.ReadOff.Sheet.{sheet_means}
 use Rattle.rc_sheet.proofs.laws.reading.sheet_stands.Goals as goal

@@ -1,7 +1,7 @@
 use Rattle.std.proofs.Common.{[], ◌∷◌, subst}
-use Rattle.rc_faults.specs.SecondParts.{form}
-use Rattle.rc_grammar.specs.declared.grammar.Rule.TheVariants as rule
-use Rattle.rc_naming.specs.Naming.{naming_of}
+use Rattle.rc_check.specs.SecondParts.{form}
+use Rattle.rc_check.specs.declared.grammar.Rule.TheVariants as rule
+use Rattle.rc_resolve.specs.Naming.{naming_of}
 use Rattle.rc_sheet.proofs.MapsInTurn.{AreInTurn, in_turn_of_both, maps_in_turn}
 use Rattle.rc_sheet.proofs.laws.setup.maps_are_in_turn.Goals as goal
 

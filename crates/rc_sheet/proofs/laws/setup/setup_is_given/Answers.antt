@@ -1,12 +1,12 @@
 use Rattle.std.proofs.Common.{◌≡◌, ℕ, [], Some, ap, ◌∙◌}
-use Rattle.rc_model.specs.Tree.{Tree, list, Trees, cons}
-use Rattle.rc_sheet_model.specs.Sheet.{SheetItems, Best, IntExpr}
-use Rattle.rc_grammar.specs.Faults.{faults}
-use Rattle.rc_grammar.specs.declared.grammar.Symbol.TheVariants as symbol
-use Rattle.rc_faults.specs.SecondFaults.{second_faults}
-use Rattle.rc_naming.specs.Naming.{naming_of}
-use Rattle.rc_reading.specs.ReadSetup.{Setup}
-use Rattle.rc_reading.specs.ReadSheet.{setup_form_at, sheet_with}
+use Rattle.rc_base.specs.Tree.{Tree, list, Trees, cons}
+use Rattle.rc_sheet_spec.specs.Sheet.{SheetItems, Best, IntExpr}
+use Rattle.rc_check.specs.Faults.{faults}
+use Rattle.rc_check.specs.declared.grammar.Symbol.TheVariants as symbol
+use Rattle.rc_check.specs.SecondFaults.{second_faults}
+use Rattle.rc_resolve.specs.Naming.{naming_of}
+use Rattle.rc_sheet.specs.ReadSetup.{Setup}
+use Rattle.rc_sheet.specs.ReadSheet.{setup_form_at, sheet_with}
 use Rattle.rc_sheet.proofs.Means.{means_so}
 use Rattle.rc_sheet.proofs.Fine.Common.{given_of}
 use Rattle.rc_sheet.proofs.Fine.Names.{Gives}

@@ -1,5 +1,5 @@
 use Rattle.std.proofs.Common.{length, map, sym, ap, ◌∙◌}
-use Rattle.rc_play_model.specs.Table.{cleared}
+use Rattle.rc_play_spec.specs.Table.{cleared}
 use Rattle.rc_table.specs.Marks.{seats_in}
 use Rattle.rc_table.proofs.MarkBytes.{none_cleared}
 use Rattle.rc_table.proofs.marks.Marks.clear_all.Goals as goal

@@ -1,5 +1,5 @@
 use Rattle.std.proofs.Common.{◌≡◌, length, drop}
-use Rattle.rc_play_model.specs.Table.{cleared}
+use Rattle.rc_play_spec.specs.Table.{cleared}
 use Rattle.rc_table.proofs.marks.Marks.clear_all.Given as goal
 
 abbrev pub invariant-loop-id : goal.invariant-loop-id

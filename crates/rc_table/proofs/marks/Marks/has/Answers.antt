@@ -1,6 +1,6 @@
 use Rattle.std.proofs.Common.{length, map, sym, ap, ◌∙◌, arith}
 use Rattle.std.proofs.lemmas.List.{length-map}
-use Rattle.rc_play_model.specs.Table.{is_marked}
+use Rattle.rc_play_spec.specs.Table.{is_marked}
 use Rattle.rc_table.specs.Marks.{seats_in, has_bit}
 use Rattle.rc_table.proofs.MarkBytes.{marked_is, none_marked_in}
 use Rattle.rc_table.proofs.marks.Marks.has.Goals as goal

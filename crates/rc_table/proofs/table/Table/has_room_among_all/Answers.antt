@@ -1,5 +1,5 @@
 use Rattle.std.proofs.Common.{◌≡◌, ◌≤◌, true, slice_get, subst}
-use Rattle.rc_play_model.specs.Shape.{holds_references}
+use Rattle.rc_play_spec.specs.Shape.{holds_references}
 use Rattle.rc_table.specs.Shape.{mems_among}
 use Rattle.rc_table.proofs.Mems.{room_of_two}
 use Rattle.rc_table.proofs.table.Table.has_room_among_all.Goals as goal

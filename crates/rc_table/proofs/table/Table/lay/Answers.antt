@@ -1,6 +1,6 @@
 use Rattle.std.proofs.Common.{length, map, sym, ap, ◌∙◌, subst}
-use Rattle.rc_play_model.specs.Shape.{Shape}
-use Rattle.rc_play_model.specs.Table.{Table, IsSound}
+use Rattle.rc_play_spec.specs.Shape.{Shape}
+use Rattle.rc_play_spec.specs.Table.{Table, IsSound}
 use Rattle.rc_table.specs.Laid.{Laid}
 use Rattle.rc_table.specs.Marks.{seats_in}
 use Rattle.rc_table.proofs.Held.{all_fit}

@@ -1,5 +1,5 @@
 use Rattle.std.proofs.Common.{length, arith, ap, sym, subst}
-use Rattle.rc_play_model.specs.Table.{IsSound}
+use Rattle.rc_play_spec.specs.Table.{IsSound}
 use Rattle.rc_table.proofs.Held.{noted_top}
 use Rattle.rc_table.proofs.PutBack.{onto_is}
 use Rattle.rc_table.proofs.table.Table.note_top.Goals as goal

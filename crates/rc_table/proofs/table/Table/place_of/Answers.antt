@@ -1,7 +1,7 @@
 use Rattle.std.proofs.Common.{◌≡◌, ℕ, ◌<◌, length, slice_get, Some, get_or, arith, ap, ◌∙◌, sym, subst}
 use Rattle.std.proofs.lemmas.List.{get_or_default}
 use Rattle.std.proofs.lemmas.Option.{slice_get-get_or}
-use Rattle.rc_play_model.specs.Table.{IsSound, list_at, place_of}
+use Rattle.rc_play_spec.specs.Table.{IsSound, list_at, place_of}
 use Rattle.rc_table.specs.Laid.{Laid}
 use Rattle.rc_table.specs.Whereabouts.{whereabouts}
 use Rattle.rc_table.proofs.WhereaboutLemmas.{nowhere, noted_of, noted_all, stands}

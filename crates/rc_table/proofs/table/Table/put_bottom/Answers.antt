@@ -1,8 +1,8 @@
 use Rattle.std.proofs.Common.{◌≡◌, ◌<◌, [], ◌∷◌, length, ap, ◌∙◌, sym, subst}
 use Rattle.std.proofs.lemmas.Option.{slice_get_within}
-use Rattle.rc_play_model.specs.Bound.{HoldsCards}
-use Rattle.rc_play_model.specs.Table.{Table, IsSound, set_marks, place_of, put_bottom}
-use Rattle.rc_play_model.proofs.SoundLemmas.{cleared_sound}
+use Rattle.rc_play_spec.specs.Bound.{HoldsCards}
+use Rattle.rc_play_spec.specs.Table.{Table, IsSound, set_marks, place_of, put_bottom}
+use Rattle.rc_play_spec.proofs.SoundLemmas.{cleared_sound}
 use Rattle.rc_table.specs.Laid.{Laid, relaid}
 use Rattle.rc_table.specs.Restored.{moved_between}
 use Rattle.rc_table.proofs.PutBack.{put_bottom_is}

@@ -1,5 +1,5 @@
 use Rattle.std.proofs.Common.{slice_index, sym, ap, ◌∙◌}
-use Rattle.rc_play_model.specs.Effects.{put}
+use Rattle.rc_play_spec.specs.Effects.{put}
 use Rattle.rc_table.specs.Laid.{relaid}
 use Rattle.rc_table.specs.Runs.{end_of}
 use Rattle.rc_table.proofs.RunSteps.{one_more_put}

@@ -1,8 +1,8 @@
 use Rattle.std.proofs.Common.{length, min, sym, ap, arith, subst, ◌∙◌, slice_index_or, []}
 use Rattle.std.specs.List.{insert}
 use Rattle.std.proofs.lemmas.Option.{slice_get_within}
-use Rattle.rc_play_model.specs.Bound.{HoldsReferences}
-use Rattle.rc_play_model.specs.Table.{IsSound}
+use Rattle.rc_play_spec.specs.Bound.{HoldsReferences}
+use Rattle.rc_play_spec.specs.Table.{IsSound}
 use Rattle.rc_table.specs.Laid.{Laid}
 use Rattle.rc_table.specs.Restored.{put_at}
 use Rattle.rc_table.proofs.Held.{one_more_fits}

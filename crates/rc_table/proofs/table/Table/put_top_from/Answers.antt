@@ -1,7 +1,7 @@
 use Rattle.std.proofs.Common.{◌≡◌, ◌<◌, length, ap, ap₂, ◌∙◌, sym, subst, arith, [], get_or}
 use Rattle.std.proofs.lemmas.Option.{slice_get_within}
-use Rattle.rc_play_model.specs.Bound.{HoldsCards}
-use Rattle.rc_play_model.specs.Table.{Table, place_of, put_top}
+use Rattle.rc_play_spec.specs.Bound.{HoldsCards}
+use Rattle.rc_play_spec.specs.Table.{Table, place_of, put_top}
 use Rattle.rc_table.specs.Laid.{Laid}
 use Rattle.rc_table.specs.Rows.{Lists}
 use Rattle.rc_table.specs.Whereabouts.{noted_in}

@@ -1,5 +1,5 @@
 use Rattle.std.proofs.Common.{◌≡◌, ◌+◌, drop, sum_by, zip}
-use Rattle.rc_play_model.specs.Table.{references_in, references}
+use Rattle.rc_play_spec.specs.Table.{references_in, references}
 use Rattle.rc_table.proofs.table.Table.references.Given as goal
 
 abbrev pub invariant-loop-loc : goal.invariant-loop-loc

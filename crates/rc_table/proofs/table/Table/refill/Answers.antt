@@ -1,6 +1,6 @@
 use Rattle.std.proofs.Common.{[], length, get_or, sym, ap, ◌∙◌}
-use Rattle.rc_play_model.specs.Shape.{Shape}
-use Rattle.rc_play_model.specs.Table.{Table}
+use Rattle.rc_play_spec.specs.Shape.{Shape}
+use Rattle.rc_play_spec.specs.Table.{Table}
 use Rattle.rc_table.proofs.WhereaboutLemmas.{noted_all}
 use Rattle.rc_table.specs.Laid.{Laid}
 use Rattle.rc_table.specs.Rows.{Lists}

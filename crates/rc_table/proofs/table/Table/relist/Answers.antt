@@ -1,5 +1,5 @@
 use Rattle.std.proofs.Common.{length, ap, ap₂, ◌∙◌, sym, subst, arith}
-use Rattle.rc_play_model.specs.Table.{Table, IsSound, with_list}
+use Rattle.rc_play_spec.specs.Table.{Table, IsSound, with_list}
 use Rattle.rc_table.specs.Laid.{Laid}
 use Rattle.rc_table.specs.Restored.{relisted}
 use Rattle.rc_table.specs.Whereabouts.{noted_in}

@@ -1,7 +1,7 @@
 use Rattle.std.proofs.Common.{◌<◌, length, take, ap, ◌∙◌, sym, subst}
 use Rattle.std.specs.List.Sorted.{IsPermutation}
-use Rattle.rc_model.specs.Numbers.{below}
-use Rattle.rc_play_model.specs.Table.{Table, IsSound, taken, cleared, list_at, reorder}
+use Rattle.rc_base.specs.Numbers.{below}
+use Rattle.rc_play_spec.specs.Table.{Table, IsSound, taken, cleared, list_at, reorder}
 use Rattle.rc_table.specs.Laid.{Laid, relaid}
 use Rattle.rc_table.specs.Restored.{relisted}
 use Rattle.rc_table.proofs.Orders.{relisted_is}

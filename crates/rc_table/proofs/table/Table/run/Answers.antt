@@ -1,7 +1,7 @@
 use Rattle.std.proofs.Common.{◌≡◌, ◌<◌, length, take, sym, ap, ◌∙◌, subst, arith}
 use Rattle.std.specs.Prelude.{All}
 use Rattle.std.proofs.lemmas.List.Elements.{All-take}
-use Rattle.rc_play_model.specs.Table.{Table, loc_of}
+use Rattle.rc_play_spec.specs.Table.{Table, loc_of}
 use Rattle.rc_table.specs.Laid.{Laid}
 use Rattle.rc_table.proofs.RunSteps.{all_at}
 use Rattle.rc_table.proofs.WhereaboutLemmas.{noted_all}

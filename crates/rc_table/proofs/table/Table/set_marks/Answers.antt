@@ -1,7 +1,7 @@
 use Rattle.std.proofs.Common.{◌≡◌, ◌<◌, false, length, sym, subst}
 use Rattle.std.specs.Prelude.{All}
-use Rattle.rc_play_model.specs.Sees.{sees}
-use Rattle.rc_play_model.specs.Table.{Table, loc_of}
+use Rattle.rc_play_spec.specs.Sees.{sees}
+use Rattle.rc_play_spec.specs.Table.{Table, loc_of}
 use Rattle.rc_table.specs.Laid.{Laid}
 use Rattle.rc_table.specs.Marks.{seats_in}
 use Rattle.rc_table.proofs.MarkBytes.{seats_are}

@@ -1,7 +1,7 @@
 use Rattle.std.proofs.Common.{ℤ, SFits, w64, sym, subst, arith}
 use Rattle.std.proofs.lemmas.Int.{ints, to_z-of_z}
-use Rattle.rc_model.specs.Clamp.{IsWithinClamp}
-use Rattle.rc_play_model.specs.Table.{Table, IsSound, set_number}
+use Rattle.rc_base.specs.Clamp.{IsWithinClamp}
+use Rattle.rc_play_spec.specs.Table.{Table, IsSound, set_number}
 use Rattle.rc_table.specs.Laid.{IsLaid}
 use Rattle.rc_table.proofs.table.Table.set_number.Goals as goal
 use Rattle.rc_table.proofs.table.Table.set_number.Goals.{in-Some, in_default}

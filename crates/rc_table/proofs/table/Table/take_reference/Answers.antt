@@ -1,6 +1,6 @@
 use Rattle.std.proofs.Common.{sym, subst, ◌∙◌}
-use Rattle.rc_play_model.specs.Bound.{HoldsReferences}
-use Rattle.rc_play_model.specs.Table.{IsSound}
+use Rattle.rc_play_spec.specs.Bound.{HoldsReferences}
+use Rattle.rc_play_spec.specs.Table.{IsSound}
 use Rattle.rc_table.specs.Laid.{Laid}
 use Rattle.rc_table.specs.Restored.{taken_at}
 use Rattle.rc_table.proofs.WhereaboutEdits.{references_noted}

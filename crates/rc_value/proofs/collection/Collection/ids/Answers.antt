@@ -1,5 +1,5 @@
 use Rattle.std.proofs.Common.{map, sym, ap, ◌∙◌}
-use Rattle.rc_play_model.specs.Scene.{id_of}
+use Rattle.rc_play_spec.specs.Scene.{id_of}
 use Rattle.rc_value.specs.Seen.{listed}
 use Rattle.rc_value.proofs.RowLemmas.{ids_read}
 use Rattle.rc_value.proofs.collection.Collection.ids.Goals as goal

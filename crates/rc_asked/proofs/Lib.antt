@@ -1,4 +1,0 @@
-pub mod FlatLemmas
-pub mod GuardLemmas
-pub mod PartLemmas
-pub mod FixedLemmas

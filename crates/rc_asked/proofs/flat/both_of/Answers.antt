@@ -1,6 +1,0 @@
-use Rattle.std.proofs.Common.{arith}
-use Rattle.rc_asked.proofs.FlatLemmas.{not_two}
-use Rattle.rc_asked.proofs.flat.both_of.Goals as goal
-
-pub returns-then-len-ne2-clause-found : goal.returns-then-len-ne2-clause-found
-returns-then-len-ne2-clause-found c = not_two c.args.tests.now.items (λ two. c.if-len-ne2.true (omega (arith, two, c.len.ensures)))

@@ -1,6 +1,0 @@
-pub mod Codes
-pub mod Guards
-pub mod GuardParts
-pub mod Meaning
-pub mod Tricks
-pub mod Flatness

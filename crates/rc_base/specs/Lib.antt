@@ -1,0 +1,14 @@
+pub mod Token
+pub mod Tree
+pub mod Words
+pub mod Numbers
+pub mod Placed
+pub mod Spelled
+pub mod Literal
+pub mod Clamp
+pub mod Deck
+pub mod Transcript
+pub mod Examples
+pub mod Limits
+pub mod Word
+pub mod Firsts

@@ -1,0 +1,96 @@
+-- What the parts of a guard stand for, and of which alternatives a guard in parts is the guard.
+use Rattle.std.specs.Prelude.{◌≡◌, ℕ, map, All, ⊤, if◌then◌else◌}
+use Rattle.rc_sheet_spec.specs.Sheet.{Alt, Effects, Test, Who, game, current_player, current_team, team_of_current, team_of_var, who_var, Loc, card_var, top_card, cards_in, eq_attr, any_of, each_card, has_value, ne, not_of, and_of, or_of, any_alt, if_alt}
+use Rattle.rc_sheet_spec.specs.Lists.{tests_from}
+use Rattle.rc_ast.specs.Names.{loc_seen, num_seen}
+use Rattle.rc_code.specs.declared.amounts.Amount.{Amount}
+use Rattle.rc_code.specs.declared.amounts.Amount.TheVariants.{Literal, Number, Size, Worth}
+use Rattle.rc_code.specs.declared.atoms.Comparison.{Comparison}
+use Rattle.rc_code.specs.declared.atoms.Comparison.TheVariants.{Compare, Same}
+use Rattle.rc_code.specs.FlatMeaning.{comparison_meant}
+use Rattle.rc_code.specs.declared.guards.Sense.{Sense}
+use Rattle.rc_code.specs.declared.guards.Sense.TheVariants.{Plain, Ne, Not}
+use Rattle.rc_code.specs.declared.guards.CardTest.{CardTest}
+use Rattle.rc_code.specs.declared.guards.CardTest.TheVariants.{Value, Against}
+use Rattle.rc_code.specs.declared.guards.Condition.{Condition}
+use Rattle.rc_code.specs.declared.guards.Condition.TheVariants.{Known, OfCard, Some}
+use Rattle.rc_code.specs.declared.guards.GuardPart.{GuardPart}
+use Rattle.rc_code.specs.declared.guards.Guard.{Guard}
+
+-- the test of the card of the variable at a place
+abbrev pub card_test_meant : ℕ → CardTest → Test
+card_test_meant place (Value name value) = has_value (card_var place) name value
+card_test_meant place (Against name against other) = eq_attr (card_var place) name (top_card (cards_in (loc_seen against))) other
+
+abbrev pub condition_meant : Condition → Test
+condition_meant (Known comparison) = comparison_meant comparison
+condition_meant (OfCard card_test) = card_test_meant 0 card_test
+condition_meant (Some among bound card_test) =
+    any_of (each_card (cards_in (loc_seen among))) bound (card_test_meant 1 card_test)
+
+abbrev pub in_sense : Sense → Test → Test
+in_sense Plain t = t
+in_sense Ne t = ne t
+in_sense Not t = not_of t
+
+abbrev pub part_meant : GuardPart → Test
+part_meant part = in_sense part.sense (condition_meant part.condition)
+
+abbrev pub guard_meant : Guard → Test
+guard_meant guard = if guard.any then or_of (tests_from (map part_meant guard.parts.items)) else and_of (tests_from (map part_meant guard.parts.items))
+
+-- an owner that no variable stands for, and a location of such an owner
+abbrev pub IsFixedWho : Who → Type 0
+IsFixedWho game = ⊤
+IsFixedWho current_player = ⊤
+IsFixedWho current_team = ⊤
+IsFixedWho team_of_current = ⊤
+IsFixedWho (team_of_var var) = ⊥
+IsFixedWho (who_var var) = ⊥
+
+abbrev pub IsFixedLoc : Loc → Type 0
+IsFixedLoc loc = IsFixedWho loc.who
+
+-- that no variable owns any location or number of what is asked
+abbrev pub IsFixedAmount : Amount → Type 0
+IsFixedAmount (Literal value) = ⊤
+IsFixedAmount (Number num) = IsFixedWho (num_seen num).who
+IsFixedAmount (Size loc) = IsFixedLoc (loc_seen loc)
+IsFixedAmount (Worth loc map) = IsFixedLoc (loc_seen loc)
+
+abbrev pub IsFixedComparison : Comparison → Type 0
+IsFixedComparison (Compare how one other) = IsFixedAmount one × IsFixedAmount other
+IsFixedComparison (Same one name other other_name) = IsFixedLoc (loc_seen one) × IsFixedLoc (loc_seen other)
+
+abbrev pub IsFixedCardTest : CardTest → Type 0
+IsFixedCardTest (Value name value) = ⊤
+IsFixedCardTest (Against name against other) = IsFixedLoc (loc_seen against)
+
+abbrev pub IsFixedCondition : Condition → Type 0
+IsFixedCondition (Known comparison) = IsFixedComparison comparison
+IsFixedCondition (OfCard card_test) = IsFixedCardTest card_test
+IsFixedCondition (Some among bound card_test) = IsFixedLoc (loc_seen among) × IsFixedCardTest card_test
+
+abbrev pub IsFixedPart : GuardPart → Type 0
+IsFixedPart part = IsFixedCondition part.condition
+
+-- a test of a card, a condition and a part that stand for a test, and of which no variable owns any location
+abbrev pub IsCardTestOf : ℕ → Test → CardTest → Type 0
+IsCardTestOf place t card_test = (card_test_meant place card_test ≡ t) × IsFixedCardTest card_test
+
+abbrev pub IsConditionOf : Test → Condition → Type 0
+IsConditionOf t condition = (condition_meant condition ≡ t) × IsFixedCondition condition
+
+abbrev pub IsPartOf : Test → GuardPart → Type 0
+IsPartOf t part = (part_meant part ≡ t) × IsFixedPart part
+
+abbrev pub IsFixedGuard : Guard → Type 0
+IsFixedGuard guard = IsFixedLoc (loc_seen guard.loc) × All IsFixedPart guard.parts.items
+
+-- Whether an alternative outside all binders offers the cards of a location for which this guard holds. The number of the
+-- variable's word and the effects are those of the alternative.
+abbrev pub IsGuardOf : Alt → Guard → Type 0
+IsGuardOf alt guard =
+    (bound : ℕ) × (effects : Effects)
+    × (alt ≡ any_alt (each_card (cards_in (loc_seen guard.loc))) bound (if_alt (guard_meant guard) effects))
+    × IsFixedGuard guard

@@ -1,5 +1,0 @@
-use Rattle.rc_command.proofs.OneCommand.{one_command}
-use Rattle.rc_command.proofs.laws.words_are_one_command.Goals as goal
-
-pub returns : goal.returns
-returns c = one_command

@@ -1,0 +1,22 @@
+use Rattle.std.proofs.Common.{◌≡◌, ◌<◌, rules, length, slice_index_or, sym, ap, subst, arith}
+use Rattle.rc_sheet_spec.specs.WellFormed.{IsAlt}
+use Rattle.rc_play_spec.proofs.SiteLemmas.{alt_among}
+use Rattle.rc_exec.proofs.items.do_item.Goals as goal
+
+-- an alternative outside all binders stands under no variable
+pub do_here-requires-clause-well : goal.do_here-requires-clause-well
+do_here-requires-clause-well g c =
+    let a = c.in-Some.ensures.lookup in
+    let sheet = c.args.about.now.sheet in
+    let alts = c.args.alts.now in
+    let offer = c.in-Some.offer.now in
+    let lt : c.args.item.now.alt < length alts = search rules in
+    let is : offer ≡ slice_index_or alts c.args.item.now.alt offer = search rules in
+    let around = c.requires.well.0 in
+    let outside = c.requires.well.1 in
+    let long = ap length c.empty-scope.ensures in (
+      around,
+      omega (arith, outside),
+      omega (arith, long),
+      subst (IsAlt sheet around) (sym c.alt.ensures) (alt_among sheet around alts c.requires.well.2 c.args.item.now.alt offer lt is),
+    )

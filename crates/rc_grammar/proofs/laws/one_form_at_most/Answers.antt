@@ -1,8 +1,0 @@
-use Rattle.rc_grammar.proofs.OneForm.{one_told, one_plain}
-use Rattle.rc_grammar.proofs.laws.one_form_at_most.Goals as goal
-
-pub returns-clause-told : goal.returns-clause-told
-returns-clause-told c = one_told
-
-pub returns-clause-plain : goal.returns-clause-plain
-returns-clause-plain c = one_plain

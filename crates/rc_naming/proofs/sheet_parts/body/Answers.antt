@@ -1,6 +1,0 @@
-use Rattle.rc_form.specs.Form.{tree_of}
-use Rattle.rc_naming.proofs.Lengths.{body_short}
-use Rattle.rc_naming.proofs.sheet_parts.body.Goals as goal
-
-pub returns-in_default : goal.returns-in_default
-returns-in_default c = body_short c.parts_of.result.now (tree_of c.args.form.now) c.parts_of.ensures c.in_default.len_below

@@ -1,0 +1,13 @@
+use Rattle.std.proofs.Common.{◌≡◌, drop}
+use Rattle.std.specs.Prelude.{fold}
+use Rattle.rc_play_spec.specs.Effects.{move_card}
+use Rattle.rc_ast.specs.Effects.{end_seen}
+use Rattle.rc_value.specs.Cards.{values_seen}
+use Rattle.rc_plain.proofs.moving.put_one_by_one.Given as goal
+
+-- what is left to move, from here, leads to what all lead to
+abbrev pub invariant-loop-card : goal.invariant-loop-card
+invariant-loop-card l =
+    (l.table.shape ≡ l.fn.table.shape)
+    × (fold (move_card l.fn.table.shape (end_seen l.end) l.at) l.table.table (values_seen (drop l.card-index l.cards))
+    ≡ fold (move_card l.fn.table.shape (end_seen l.end) l.at) l.fn.table.table (values_seen l.cards))

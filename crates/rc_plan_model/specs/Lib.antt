@@ -1,5 +1,0 @@
-pub mod Limits
-pub mod PlanStands
-pub mod Faults
-pub mod PlanFault
-pub mod Examples

@@ -1,5 +1,0 @@
-use Rattle.rc_play_model.proofs.ChoiceLemmas.{same_choice}
-use Rattle.rc_play_model.proofs.laws.choices.choices_are_functions_of_views.Goals as goal
-
-pub returns : goal.returns
-returns c = same_choice

@@ -1,5 +1,0 @@
-use Rattle.rc_play_model.proofs.PlayoutLemmas.{playout_ends}
-use Rattle.rc_play_model.proofs.laws.choices.every_playout_ends.Goals as goal
-
-pub returns : goal.returns
-returns c = playout_ends

@@ -1,5 +1,0 @@
-use Rattle.rc_play_model.proofs.ControlLemmas.{control_fits}
-use Rattle.rc_play_model.proofs.laws.controls.controls_fit_their_sites.Goals as goal
-
-pub returns : goal.returns
-returns c = λ about dealing fits formed items k at seat site is stands. control_fits about dealing fits formed items k at seat site is stands

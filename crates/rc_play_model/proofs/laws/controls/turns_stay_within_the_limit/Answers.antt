@@ -1,5 +1,0 @@
-use Rattle.rc_play_model.proofs.TurnLemmas.{turns_within}
-use Rattle.rc_play_model.proofs.laws.controls.turns_stay_within_the_limit.Goals as goal
-
-pub returns : goal.returns
-returns c = λ about dealing items k at is. turns_within about dealing items k at is

@@ -1,9 +1,0 @@
-use Rattle.rc_play_model.proofs.PlayLemmas.{match_recorded}
-use Rattle.rc_play_model.proofs.MatchLemmas.{all_recorded}
-use Rattle.rc_play_model.proofs.laws.matches.every_match_has_a_record.Goals as goal
-
-pub returns-clause-record_there : goal.returns-clause-record_there
-returns-clause-record_there c = match_recorded
-
-pub returns-clause-each : goal.returns-clause-each
-returns-clause-each c = all_recorded

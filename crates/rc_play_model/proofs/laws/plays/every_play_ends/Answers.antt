@@ -1,5 +1,0 @@
-use Rattle.rc_play_model.proofs.PlayLemmas.{play_ends}
-use Rattle.rc_play_model.proofs.laws.plays.every_play_ends.Goals as goal
-
-pub returns : goal.returns
-returns c = λ about dealing chooser k. play_ends about dealing chooser k

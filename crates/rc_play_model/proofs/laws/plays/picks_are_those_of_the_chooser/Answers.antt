@@ -1,5 +1,0 @@
-use Rattle.rc_play_model.proofs.NextLemmas.{pick_taken}
-use Rattle.rc_play_model.proofs.laws.plays.picks_are_those_of_the_chooser.Goals as goal
-
-pub returns : goal.returns
-returns c = λ about dealing chooser keeps k p is n seat site at leads stands. pick_taken about dealing chooser keeps k p is n seat site at leads stands

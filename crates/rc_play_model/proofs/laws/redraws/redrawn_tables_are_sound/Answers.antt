@@ -1,5 +1,0 @@
-use Rattle.rc_play_model.proofs.Redrawn.{redrawn-of}
-use Rattle.rc_play_model.proofs.laws.redraws.redrawn_tables_are_sound.Goals as goal
-
-pub returns : goal.returns
-returns c = λ shape view key of. (redrawn-of shape view key of).0

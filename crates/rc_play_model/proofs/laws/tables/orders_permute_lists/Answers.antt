@@ -1,5 +1,0 @@
-use Rattle.rc_play_model.proofs.SoundLemmas.{taken_permutes}
-use Rattle.rc_play_model.proofs.laws.tables.orders_permute_lists.Goals as goal
-
-pub returns : goal.returns
-returns c = taken_permutes

@@ -1,0 +1,6 @@
+use Rattle.rc_form.specs.Form.{tree_of}
+use Rattle.rc_resolve.proofs.Lengths.{setup_short}
+use Rattle.rc_resolve.proofs.sheet_parts.setup_lines.Goals as goal
+
+pub returns-in_default : goal.returns-in_default
+returns-in_default c = setup_short c.parts_of.result.now (tree_of c.args.form.now) c.parts_of.ensures c.in_default.len_below

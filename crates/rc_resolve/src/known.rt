@@ -1,0 +1,142 @@
+//! The names that are known so far.
+ghost use Rattle.std.specs.Prelude.{◌≡◌, [], OnOk, option_map, option_to_list};
+ghost use Rattle.std.specs.Map.{keys_of};
+ghost use Rattle.rc_form.specs.Form.{tree_of, trees_of, packed};
+ghost use Rattle.rc_sheet_spec.specs.FormMentions.{word_of};
+ghost use Rattle.rc_resolve.specs.Mentions.{loc_mention};
+ghost use Rattle.rc_resolve.specs.Known.{with_first, with_words, with_all, own, none, in_deck_of, maps_alone, locs_alone, nums_alone, variables, loc_seen, num_seen};
+
+use crate::uses::{Located, attr_in, loc_in, map_in, num_in, value_in, word_of};
+use rc_ast::Class;
+use rc_base::{Firsts, OrderedWord};
+use rc_form::{Form, Word};
+use std::alloc::{AllocError, Global};
+use std::marker::Model;
+
+/// The different names of each kind that were mentioned so far, in the order of their first mention, and what the first
+/// mention of a location or of a stored number says.
+#[derive(Drop)]
+pub struct Known {
+    pub(crate) attrs: Firsts<OrderedWord, ()>,
+    pub(crate) values: Firsts<OrderedWord, ()>,
+    pub(crate) maps: Firsts<OrderedWord, ()>,
+    pub(crate) locs: Firsts<OrderedWord, Located>,
+    pub(crate) nums: Firsts<OrderedWord, Class>,
+    pub(crate) vars: Firsts<OrderedWord, ()>,
+}
+
+impl Model for Known {
+    ghost use Rattle.rc_resolve.specs.Mentions.{Mentions};
+
+    ghost Value = { Mentions };
+
+    ghost use Rattle.rc_resolve.specs.Known.{known_seen};
+
+    ghost view = { known_seen };
+}
+
+impl Known {
+    /// No names. It takes no memory.
+    pub fn new(alloc: Global) -> Known
+        ensures { result ≡ none }
+    {
+        Known {
+            attrs: Firsts::new(alloc),
+            values: Firsts::new(alloc),
+            maps: Firsts::new(alloc),
+            locs: Firsts::new(alloc),
+            nums: Firsts::new(alloc),
+            vars: Firsts::new(alloc),
+        }
+    }
+
+    /// Adds the attribute that the form is, where it is an atom.
+    pub fn add_attr(&mut self, form: &Form) -> Result<(), AllocError>
+        ensures { OnOk result (self.new ≡ with_all self.old (in_deck_of (word_of (tree_of form.now)) [])) }
+    {
+        add_word(&mut self.attrs, word_of(form))
+    }
+
+    /// Adds the value that the form is, where it is an atom.
+    pub fn add_value(&mut self, form: &Form) -> Result<(), AllocError>
+        ensures { OnOk result (self.new ≡ with_all self.old (in_deck_of [] (word_of (tree_of form.now)))) }
+    {
+        add_word(&mut self.values, word_of(form))
+    }
+
+    /// Adds a point map, where there is one.
+    pub fn add_map(&mut self, map: Option<Word>) -> Result<(), AllocError>
+        ensures { OnOk result (self.new ≡ with_all self.old (maps_alone (option_to_list map))) }
+    {
+        add_word(&mut self.maps, map)
+    }
+
+    /// Adds the variable that the form is, where it is an atom.
+    pub fn add_variable(&mut self, form: &Form) -> Result<(), AllocError>
+        ensures { OnOk result (self.new ≡ with_all self.old (variables (word_of (tree_of form.now)))) }
+    {
+        add_word(&mut self.vars, word_of(form))
+    }
+
+    /// Adds the names that a list of these parts mentions itself, but for variables.
+    pub fn add_own(&mut self, parts: &[Form]) -> Result<(), AllocError>
+        ensures { OnOk result (self.new ≡ with_all self.old (own (packed (trees_of parts.now)))) }
+    {
+        add_word(&mut self.attrs, attr_in(parts))?;
+        add_word(&mut self.values, value_in(parts))?;
+        add_word(&mut self.maps, map_in(parts))?;
+        self.add_location(loc_in(parts))?;
+        self.add_number(num_in(parts))
+    }
+
+    /// Adds the location that a list of these parts mentions itself.
+    pub fn add_own_location(&mut self, parts: &[Form]) -> Result<(), AllocError>
+        ensures { OnOk result (self.new ≡ with_all self.old (locs_alone (loc_mention (packed (trees_of parts.now))))) }
+    {
+        self.add_location(loc_in(parts))
+    }
+
+    /// Adds a mention of a location, where there is one.
+    #[inline(always)]
+    fn add_location(&mut self, found: Option<(Word, Located)>) -> Result<(), AllocError>
+        ensures { OnOk result (self.new ≡ with_all self.old (locs_alone (option_to_list (option_map loc_seen found)))) }
+    {
+        match found {
+            Some(entry) => add_entry(&mut self.locs, entry.0, entry.1),
+            None => Ok(()),
+        }
+    }
+
+    /// Adds a mention of a stored number, where there is one.
+    #[inline(always)]
+    fn add_number(&mut self, found: Option<(Word, Class)>) -> Result<(), AllocError>
+        ensures { OnOk result (self.new ≡ with_all self.old (nums_alone (option_to_list (option_map num_seen found)))) }
+    {
+        match found {
+            Some(entry) => add_entry(&mut self.nums, entry.0, entry.1),
+            None => Ok(()),
+        }
+    }
+}
+
+/// Adds a word, unless it is known.
+#[inline(always)]
+fn add_word(words: &mut Firsts<OrderedWord, ()>, word: Option<Word>) -> Result<(), AllocError>
+    ensures { OnOk result (keys_of words.new ≡ with_words (keys_of words.old) (option_to_list word)) }
+{
+    if let Some(word) = word {
+        words.insert(OrderedWord::of(word), ())?;
+    }
+    Ok(())
+}
+
+/// Adds a word with what its mention says, unless the word is known.
+fn add_entry<V: Copy>(
+    entries: &mut Firsts<OrderedWord, V>,
+    word: Word,
+    said: V,
+) -> Result<(), AllocError>
+    ensures { OnOk result (entries.new ≡ with_first (λ e. e.0) entries.old (word, said)) }
+{
+    entries.insert(OrderedWord::of(word), said)
+}

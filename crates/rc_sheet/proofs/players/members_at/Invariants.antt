@@ -1,0 +1,9 @@
+use Rattle.std.proofs.Common.{◌≡◌, ◌∷◌}
+use Rattle.rc_form.specs.Form.{trees_of, packed}
+use Rattle.rc_sheet.specs.ReadSetup.{members_at}
+use Rattle.rc_sheet.proofs.InTurn.{so_far}
+use Rattle.rc_sheet.proofs.players.members_at.Given as goal
+
+abbrev pub invariant-loop-form : goal.invariant-loop-form
+invariant-loop-form l =
+    so_far (λ n. n) ◌∷◌ members_at l.members.items l.forms l.form-index ≡ members_at (packed (trees_of l.forms))

@@ -1,0 +1,14 @@
+pub mod Begun
+pub mod Gives
+pub mod Reader
+pub mod ReadNames
+pub mod ReadExpressions
+pub mod ReadParts
+pub mod Sides
+pub mod ReadEffects
+pub mod ReadItems
+pub mod ReadSetup
+pub mod SetupViews
+pub mod ReadSheet
+pub mod Accepted
+pub mod PrintedAgain

@@ -1,5 +1,0 @@
-use Rattle.rc_text_model.proofs.AlongLemmas.{one_pass}
-use Rattle.rc_text_model.proofs.judging.one_pass_judges.Goals as goal
-
-pub returns : goal.returns
-returns c = λ about dealing plan named head n is. one_pass about dealing plan named head n is

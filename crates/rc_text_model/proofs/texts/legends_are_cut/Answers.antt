@@ -1,5 +1,0 @@
-use Rattle.rc_text_model.proofs.Legends.{legend_cut}
-use Rattle.rc_text_model.proofs.texts.legends_are_cut.Goals as goal
-
-pub returns : goal.returns
-returns c = λ sheet shape words few. legend_cut sheet shape words few

@@ -1,8 +1,0 @@
-use Rattle.rc_text_model.proofs.LineLemmas.{line-only, line-again}
-use Rattle.rc_text_model.proofs.texts.lines_are_read.Goals as goal
-
-pub returns-clause-again : goal.returns-clause-again
-returns-clause-again c = λ named m is. line-again named m is
-
-pub returns-clause-only : goal.returns-clause-only
-returns-clause-only c = λ named bytes m e. line-only named bytes m e

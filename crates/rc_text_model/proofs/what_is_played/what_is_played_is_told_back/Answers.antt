@@ -1,5 +1,0 @@
-use Rattle.rc_text_model.proofs.ToldBack.{told_back}
-use Rattle.rc_text_model.proofs.what_is_played.what_is_played_is_told_back.Goals as goal
-
-pub returns : goal.returns
-returns c = λ named about plan is few. told_back about plan is few named

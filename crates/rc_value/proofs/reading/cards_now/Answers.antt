@@ -1,0 +1,13 @@
+use Rattle.std.proofs.Common.{ap, ◌∙◌}
+use Rattle.rc_play_spec.specs.Value.{coll_value}
+use Rattle.rc_ast.specs.Expressions.{coll_seen}
+use Rattle.rc_rules.specs.Control.{frames_seen}
+use Rattle.rc_value.proofs.Readings.{cards_there}
+use Rattle.rc_value.proofs.reading.cards_now.Goals as goal
+
+pub returns-clause-there : goal.returns-clause-there
+returns-clause-there c =
+    let context = c.args.context.now in
+    cards_there context.about.now c.sheet-fits.ensures.shape c.args.table.now c.requires.stands.0 c.shape-sound.ensures.sound (frames_seen c.args.frames.now.items)
+    context.scope.now c.requires.stands.2 (coll_seen c.args.expr.now) c.coll_of.new.out.items
+    (c.coll_of.ensures ∙ ap (λ scene. coll_value scene context.scope.now (coll_seen c.args.expr.now)) c.scene_now.ensures)
