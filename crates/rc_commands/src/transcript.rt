@@ -21,8 +21,7 @@ use rc_deck::Memory;
 use rc_flow::Checked;
 use rc_judge::{Named, Verdict, judge, judge_and_name, judge_named};
 use rc_measure::{measures_of, write_measures};
-use rc_rules::Plan;
-use rc_series::shared_about;
+use rc_rules::{Plan, shared_about};
 use rc_text::{HouseText, NamedText, TextFail, read_house, read_named, write_named};
 use std::alloc::Global;
 

@@ -2,13 +2,11 @@
 //! their standings.
 #![tactic(auto)]
 
-mod about;
 mod laws;
 mod plays;
 mod records;
 mod series;
 
-pub use about::shared_about;
 pub use laws::looks_are_rollout_picks;
 pub use plays::{own_choices, series_of};
 pub use records::{record_of, records_of};

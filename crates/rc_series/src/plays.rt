@@ -13,7 +13,7 @@ ghost use Rattle.rc_cache.specs.Hits.{hits, cost};
 ghost use Rattle.rc_cache.specs.Sums.{idle};
 ghost use Rattle.rc_cache.specs.Fresh.{HasNames, HasParts};
 
-use crate::{Series, records_of, series_from, shared_about};
+use crate::{Series, records_of, series_from};
 use rc_base::Steps;
 use rc_cache::{
     Book, BookNaming, Fresh, OwnBook, one_worker_has_the_hits_of_its_looks,
@@ -23,7 +23,7 @@ use rc_code::Code;
 use rc_deck::Memory;
 use rc_flow::Checked;
 use rc_rollout::{Choices, shared_code};
-use rc_rules::{About, Plan};
+use rc_rules::{About, Plan, shared_about};
 use std::alloc::Global;
 use std::marker::Brand;
 use std::sync::Arc;

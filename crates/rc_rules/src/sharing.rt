@@ -1,10 +1,10 @@
-//! What the matches of a sheet are played by.
+//! What the matches of a sheet are played by, shared by all that play them.
 ghost use Rattle.std.specs.Prelude.{◌≡◌, IfOk};
 ghost use Rattle.rc_play_spec.specs.About.{about_of};
 
+use crate::{About, shape_of};
 use rc_deck::Memory;
 use rc_flow::Checked;
-use rc_rules::{About, shape_of};
 use std::alloc::Global;
 use std::sync::Arc;
 
