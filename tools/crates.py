@@ -7,7 +7,8 @@ usage: tools/crates.py          says what is wrong
 - `crates.txt` lists the crates that are there, and for each the libraries that its code, definitions and proofs name, and no
   others: the kit itself finds what a library stands on.
 - The picture has each crate once. A crate stands on crates of lower lines, or on one further right in its own.
-- Each crate begins with a sentence on what it does.
+- Each crate begins with a sentence on what it does, and says there on which crates it stands and, where that matters, on which it
+  never stands. Of those that its line of crates.txt lists it names only those on which none of the others stands.
 - A line of docs/PROVED.md has at most 500 letters, so that a change of one sentence is a change of few.
 """
 
@@ -122,6 +123,47 @@ def head_faults(root: Path) -> Iterator[str]:
             yield f"{crate} doesn't begin with a sentence on what it does"
 
 
+def below(crates: dict[str, list[str]], crate: str) -> set[str]:
+    """The crates that a crate stands on, and those that these stand on."""
+    found, open_ones = set(), [crate]
+    while open_ones:
+        for library in crates[open_ones.pop()]:
+            if library in crates and library not in found:
+                found.add(library)
+                open_ones.append(library)
+    return found
+
+
+def told_below(crates: dict[str, list[str]], crate: str) -> list[str]:
+    """The crates of its line on which none of the others there stands, in the order of the line."""
+    libraries = [library for library in crates[crate] if library in crates]
+    lower = set().union(*(below(crates, library) for library in libraries))
+    return [library for library in libraries if library not in lower]
+
+
+def joined(names: list[str]) -> str:
+    """Names as a sentence lists them."""
+    return " and ".join([", ".join(names[:-1]), names[-1]] if len(names) > 1 else names)
+
+
+def footing_faults(root: Path) -> Iterator[str]:
+    """What the heads of crates say otherwise of what these stand on."""
+    crates = listed(root)
+    for crate in crates:
+        files = [root / "crates" / crate / "src" / name for name in ("lib.rt", "main.rt")]
+        lines = next((file.read_text("utf-8").splitlines() for file in files if file.is_file()), [])
+        head = " ".join(line[4:] for line in lines if line.startswith("//! "))
+        stands = joined(told_below(crates, crate)) or "no other crate"
+        told = re.search(r"Stands on ([^.]*?)(?:, never on ([^.]*))?\.", head)
+        if not told or told[1] != stands:
+            yield f"the head of {crate} is to say: Stands on {stands}."
+        for other in CRATE.findall(told[2] or "") if told else []:
+            if other not in crates:
+                yield f"the head of {crate} names {other}, which isn't there"
+            elif other in {crate, *below(crates, crate)}:
+                yield f"{crate} stands on {other}, and its head says that it never does"
+
+
 def line_faults(root: Path) -> Iterator[str]:
     """The lines that are too long."""
     for number, line in enumerate((root / LONG_PAGE).read_text("utf-8").splitlines(), 1):
@@ -130,7 +172,7 @@ def line_faults(root: Path) -> Iterator[str]:
 
 
 def all_faults(root: Path) -> Iterator[str]:
-    for faults in (listing_faults, picture_faults, head_faults, line_faults):
+    for faults in (listing_faults, picture_faults, head_faults, footing_faults, line_faults):
         yield from faults(root)
 
 

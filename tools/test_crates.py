@@ -25,10 +25,10 @@ class Faults(unittest.TestCase):
         self.addCleanup(folder.cleanup)
         self.root = Path(folder.name)
         self.write("crates.txt", "# crates\nrc_a:\nrc_b: rc_a lru\nrc_c status=3: rc_b\n")
-        self.write("crates/rc_a/src/lib.rt", "//! What a does.\n\npub use rows::f;\n")
-        self.write("crates/rc_b/src/lib.rt", "//! What b does.\n\nuse lru::LruCache;\n")
+        self.write("crates/rc_a/src/lib.rt", "//! What a does.\n//! Stands on no other crate.\n\npub use rows::f;\n")
+        self.write("crates/rc_b/src/lib.rt", "//! What b does.\n//! Stands on rc_a, never on rc_c.\n\nuse lru::LruCache;\n")
         self.write("crates/rc_b/specs/Lib.antt", "use Rattle.rc_a.specs.A.{a}\nuse Rattle.std.specs.Int.{b}\n")
-        self.write("crates/rc_c/src/main.rt", "//! What c does.\n\nfn main() { rc_b::run() }\n")
+        self.write("crates/rc_c/src/main.rt", "//! What c does.\n//! Stands on rc_b.\n\nfn main() { rc_b::run() }\n")
         self.write(crates.PICTURE, PICTURE)
         self.write(crates.LONG_PAGE, "short\n")
 
@@ -45,9 +45,9 @@ class Faults(unittest.TestCase):
 
     def test_what_is_named_is_to_be_listed(self):
         for name, text in (
-            ("src/lib.rt", "//! What c does.\nuse rc_a::f;\n"),
-            ("src/lib.rt", "//! What c does.\nghost use Rattle.rc_a.specs.A.a;\n"),
-            ("src/lib.rt", "//! What c does.\nfn f() -> rc_a::A\n"),
+            ("src/f.rt", "use rc_a::f;\n"),
+            ("src/f.rt", "ghost use Rattle.rc_a.specs.A.a;\n"),
+            ("src/f.rt", "fn f() -> rc_a::A\n"),
             ("proofs/f/Answers.antt", "use Rattle.rc_a.proofs.A.{a}\n"),
         ):
             with self.subTest(text=text):
@@ -56,7 +56,7 @@ class Faults(unittest.TestCase):
                 (self.root / "crates/rc_c" / name).unlink()
 
     def test_libraries_of_the_kit_are_named_too(self):
-        self.write("crates/rc_a/src/lib.rt", "//! What a does.\nuse lru::LruCache;\n")
+        self.write("crates/rc_a/src/rows.rt", "use lru::LruCache;\n")
         self.assertEqual(self.faults(), ["rc_a names lru, which isn't listed for it"])
 
     def test_comments_and_modules_name_nothing(self):
@@ -96,7 +96,29 @@ class Faults(unittest.TestCase):
 
     def test_a_crate_says_what_it_does(self):
         self.write("crates/rc_a/src/lib.rt", "pub use rows::f;\n")
-        self.assertEqual(self.faults(), ["rc_a doesn't begin with a sentence on what it does"])
+        self.assertEqual(list(crates.head_faults(self.root)), ["rc_a doesn't begin with a sentence on what it does"])
+
+    def test_a_crate_says_what_it_stands_on(self):
+        for head in ("What c does.", "What c does. Stands on rc_a.", "What c does. Stands on rc_a and rc_b.", "Stands on no other crate."):
+            with self.subTest(head=head):
+                self.write("crates/rc_c/src/main.rt", f"//! {head}\n\nfn main() {{ rc_b::run() }}\n")
+                self.assertEqual(self.faults(), ["the head of rc_c is to say: Stands on rc_b."])
+
+    def test_only_the_highest_are_told(self):
+        self.write("crates.txt", "rc_a:\nrc_b: rc_a lru\nrc_c: rc_a rc_b\nrc_d: rc_a\nrc_e: rc_a rc_b rc_d\n")
+        listed = crates.listed(self.root)
+        self.assertEqual([crates.joined(crates.told_below(listed, crate)) for crate in listed], ["", "rc_a", "rc_b", "rc_a", "rc_b and rc_d"])
+        self.assertEqual(crates.joined(["rc_a", "rc_b", "rc_c"]), "rc_a, rc_b and rc_c")
+
+    def test_a_crate_never_stands_on_what_its_head_says(self):
+        for others, fault in (
+            ("rc_a", "rc_c stands on rc_a, and its head says that it never does"),
+            ("rc_c", "rc_c stands on rc_c, and its head says that it never does"),
+            ("rc_d", "the head of rc_c names rc_d, which isn't there"),
+        ):
+            with self.subTest(others=others):
+                self.write("crates/rc_c/src/main.rt", f"//! What c does. Stands on rc_b, never on\n//! {others}.\n\nfn main() {{ rc_b::run() }}\n")
+                self.assertEqual(self.faults(), [fault])
 
     def test_a_long_line_is_told(self):
         self.write(crates.LONG_PAGE, f"{'é' * 500}\n{'e' * 501}\n")

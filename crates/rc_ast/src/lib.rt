@@ -3,6 +3,8 @@
 //! A [`Sheet`] is what a game's form says, without its spelling: each name is a number, which is the place of its
 //! [`Word`] in [`Names`]. Contracts see these types as the pure trees of `rc_sheet_spec`, by `sheet_seen`, `test_seen`
 //! and the like, in which no memory stands.
+//!
+//! Stands on rc_deck and rc_sheet_spec, never on rc_form.
 #![tactic(auto)]
 
 mod effects;

@@ -1,5 +1,7 @@
 //! What texts, sheets and plays share: the definitions that the contracts of several crates cite, words and what names
 //! stand for, limits, the first entry of each key, and a counter of steps that a running program doesn't see.
+//!
+//! Stands on no other crate.
 #![tactic(auto)]
 
 mod classes;

@@ -1,5 +1,7 @@
 //! A book of totals that were found before: a bounded list of entries, the journal of its calls, and the lanes by which
 //! workers call it, one alone or many over one lock.
+//!
+//! Stands on rc_redraw, never on rc_flat.
 #![tactic(auto)]
 
 mod book;

@@ -1,6 +1,8 @@
 //! The faults of a sheet's form. The first round is the grammar as a table of places and forms, and finds what has not
 //! its shape; the second finds what stands twice, is unknown, is of the wrong kind or is too many, and a form without
 //! cards. Its definition stands whole in `specs/SecondFaults.antt`.
+//!
+//! Stands on rc_form and rc_sheet_spec, never on rc_ast.
 #![tactic(auto)]
 
 mod around;

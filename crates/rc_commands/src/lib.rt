@@ -3,6 +3,8 @@
 //! measures, `watch` tells what a seat sees in a match, `rival` has one strategy search, `sheet` prints a sheet, and
 //! `bench` plays a game of its own. Here a source is answered without ports, as far as nobody has to play for it, with why
 //! it is refused, the statuses that commands end with, and the laws of answers.
+//!
+//! Stands on rc_outside, rc_plan, rc_measure, rc_rivals, rc_watch, rc_judge and rc_trick.
 #![tactic(auto)]
 
 mod accepting;

@@ -2,6 +2,8 @@
 //!
 //! A key has a sequence of words of 32 bits, those of the generator ChaCha8. What is drawn by a key depends on the key
 //! alone. Of numbered keys the words are generated four at a time, side by side in the lanes of vectors.
+//!
+//! Stands on rc_play_spec, never on rc_ast.
 #![tactic(auto)]
 
 mod lanes;

@@ -1,4 +1,6 @@
 //! What the effects of code do to a board and to the open stages, and what the effects of a chosen item do.
+//!
+//! Stands on rc_value and rc_undo, never on rc_plain.
 #![tactic(auto)]
 
 mod blocks;

@@ -1,5 +1,7 @@
 //! The flat machine: it plays a match on the code of its sheet, and where it notes its edits it can go back to where it
 //! stood before. Another one goes home to the decision from which it is played onward again and again.
+//!
+//! Stands on rc_menu and rc_exec, never on rc_plain.
 #![tactic(auto)]
 
 mod calls;

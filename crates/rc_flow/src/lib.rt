@@ -4,6 +4,8 @@
 //! A location in a guard or a domain of a choice is a `vloc` or a `mem`, or an `iloc` of the mover or of the mover's
 //! team; but `size` may ask for the length of any location. [`check_sight`] takes a sheet that keeps the rule, and
 //! refuses another one at the first location that breaks it.
+//!
+//! Stands on rc_ast and rc_play_spec.
 #![tactic(auto)]
 
 mod alternatives;

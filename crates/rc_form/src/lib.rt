@@ -1,4 +1,6 @@
 //! Reads the lists in parentheses that a text spells, and prints them.
+//!
+//! Stands on rc_base.
 #![tactic(auto)]
 
 mod examples;

@@ -1,5 +1,7 @@
 //! Games that tests play, and what watches their matches: their texts, what matches of them share, two machines side by
 //! side, playouts that go back, and a memo that forgets.
+//!
+//! Stands on rc_plain, rc_cache, rc_rollout, rc_plan and rc_sheet.
 #![tactic(auto)]
 
 mod alike;

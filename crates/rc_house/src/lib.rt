@@ -1,5 +1,7 @@
 //! The commands, from their words to the end: they read their source, have its matches played, and write what
 //! `rc_commands` says.
+//!
+//! Stands on rc_workers and rc_commands.
 #![tactic(auto)]
 
 mod handing;

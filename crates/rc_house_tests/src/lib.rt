@@ -1,4 +1,6 @@
 //! Tests of whole commands: over sources and sinks that fail, and by several workers.
+//!
+//! Stands on rc_house.
 #![tactic(auto)]
 
 #[cfg(test)]

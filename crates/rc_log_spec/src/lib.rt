@@ -1,5 +1,7 @@
 //! The definitions of seat logs: what a seat sees at each decision of a match, the lines and the bytes that tell it,
 //! and what is read line by line; and laws of these. No function here does anything.
+//!
+//! Stands on rc_view.
 #![tactic(auto)]
 
 mod laws;

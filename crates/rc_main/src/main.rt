@@ -1,4 +1,6 @@
 //! `cardhouse WORDS`: reads standard input, writes texts to standard output and notes to standard error.
+//!
+//! Stands on rc_house.
 #![tactic(auto)]
 
 ghost use Rattle.std.specs.Prelude.{◌≡◌};

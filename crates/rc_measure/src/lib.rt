@@ -1,5 +1,7 @@
 //! Measures of the matches of a plan: how long they are, how often a choice is one, how far scores lie apart, who
 //! leads. They are counted off records and written.
+//!
+//! Stands on rc_text, never on rc_flat or rc_plain.
 #![tactic(auto)]
 
 mod laws;

@@ -2,6 +2,8 @@
 //! told apart; and what its items bind.
 //!
 //! Nothing here takes memory.
+//!
+//! Stands on rc_value, never on rc_undo or rc_flat.
 #![tactic(auto)]
 
 mod alike;

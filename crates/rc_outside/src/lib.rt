@@ -4,6 +4,8 @@
 //! or takes and that a failure shows in a count of faults. [`read_all`] and [`write_all`] work over
 //! any of them. [`Plain`], [`Bytes`] and [`Room`] stand in memory, and [`StdSource`] and
 //! [`StdSink`] adapt the standard library's readers and writers.
+//!
+//! Stands on no other crate.
 #![tactic(auto)]
 
 mod adapters;

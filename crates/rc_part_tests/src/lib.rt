@@ -2,6 +2,8 @@
 //! side, and the ways back of playouts; menus; redrawn tables, what seats see, the bytes of views, and logs of seats;
 //! measures; when a gate is asked; and what matches remember: in a house over events, in the book that workers share,
 //! and in a memo that forgets.
+//!
+//! Stands on rc_core, rc_measure, rc_workers, rc_watch, rc_games and rc_trick.
 #![tactic(auto)]
 
 #[cfg(test)]

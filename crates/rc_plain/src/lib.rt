@@ -1,5 +1,7 @@
 //! The tree machine: it plays a match on the tree of its sheet, does its effects on the table and the open stages, and
 //! keeps what is left to run as a path of places into the sheet.
+//!
+//! Stands on rc_menu, never on rc_undo, rc_exec or rc_flat.
 #![tactic(auto)]
 
 mod decisions;

@@ -1,4 +1,6 @@
 //! Plans, read from forms.
+//!
+//! Stands on rc_form and rc_rules.
 #![tactic(auto)]
 
 mod draft;

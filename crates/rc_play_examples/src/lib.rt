@@ -1,5 +1,7 @@
 //! House texts of whole sources, computed: the sheet is read off the form that the source's tokens spell, and played by
 //! the plan behind it. And the names of sheets, numbered. No function here does anything.
+//!
+//! Stands on rc_play_spec and rc_sheet.
 #![tactic(auto)]
 
 mod collections;

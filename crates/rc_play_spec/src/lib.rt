@@ -1,5 +1,7 @@
 //! The definitions of play, plans, house texts and searches that the contracts of several crates cite, and laws about
 //! them. No function here does anything.
+//!
+//! Stands on rc_deck and rc_sheet_spec, never on rc_form or rc_ast.
 #![tactic(auto)]
 
 mod examples;

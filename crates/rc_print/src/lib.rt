@@ -2,6 +2,8 @@
 //!
 //! [`print_sheet`] gives the bytes of a sheet's printed form, which `rc_sheet_spec` defines for its pure tree, and a
 //! law says that the form stands for the sheet.
+//!
+//! Stands on rc_ast, never on rc_form.
 #![tactic(auto)]
 
 mod decks;

@@ -1,5 +1,7 @@
 //! Deals that are drawn anew for what a seat sees, what is asked of them, and the traits of what remembers the answers
 //! and of what chooses by them.
+//!
+//! Stands on rc_view, never on rc_flat.
 #![tactic(auto)]
 
 mod asking;

@@ -3,6 +3,8 @@
 //! [`naming_of`] goes over a form whose shape is right, and gives the words of each kind in the order in which the
 //! printed form mentions them first. By the numbers that attributes and values have, [`read_deck`] reads a deck tree and
 //! [`read_entries`] a point map.
+//!
+//! Stands on rc_check and rc_ast, never on rc_play_spec.
 #![tactic(auto)]
 
 mod finish;

@@ -1,5 +1,7 @@
 //! The rules of play: what a match is played by, where it stands, what it offers, who shuffles, and what comes out of
 //! it.
+//!
+//! Stands on rc_flow, rc_table and rc_draw, never on rc_form or rc_code.
 #![tactic(auto)]
 
 mod about;

@@ -1,4 +1,6 @@
 //! A strategy that searches: it looks some decisions deep into tables that are redrawn for what its seat sees.
+//!
+//! Stands on rc_rollout and rc_match, never on rc_plain or rc_cache.
 #![tactic(auto)]
 
 mod dealer;

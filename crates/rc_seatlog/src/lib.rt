@@ -1,4 +1,6 @@
 //! Seat logs: what a seat saw at each decision of a match. They are written and read.
+//!
+//! Stands on rc_text and rc_log_spec, never on rc_flat or rc_plain.
 #![tactic(auto)]
 
 mod lines;

@@ -2,6 +2,8 @@
 //!
 //! The laws say that what is read off a form stands for it, that each form without a fault is read, as a sheet that is
 //! well formed and numbered by first mentions, and that a sheet's printed text is read back.
+//!
+//! Stands on rc_resolve and rc_print, never on rc_play_spec.
 #![tactic(auto)]
 
 mod accepting;

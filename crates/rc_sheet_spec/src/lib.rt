@@ -1,5 +1,7 @@
 //! The definitions of sheets that the contracts of several crates cite: sheets as trees, which form stands for which
 //! sheet, and which sheets are well formed.
+//!
+//! Stands on rc_base, never on rc_form.
 #![tactic(auto)]
 
 mod clause_examples;

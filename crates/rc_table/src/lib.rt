@@ -4,6 +4,8 @@
 //! are at a moment of a match. Every edit keeps a table sound: each card stands once in the locations that hold cards,
 //! each `mem` has at most 512 references and all of them 1,024, numbers are within -1,000,000,000 .. 1,000,000,000, and
 //! no card is marked for a seat that sees its location. None of them takes memory.
+//!
+//! Stands on rc_play_spec, never on rc_ast.
 #![tactic(auto)]
 
 mod by_place;

@@ -1,5 +1,7 @@
 //! House texts: the matches of a plan as they were played, and the standings of its strategies. They are written and
 //! read.
+//!
+//! Stands on rc_rules, never on rc_flat or rc_plain.
 #![tactic(auto)]
 
 mod bounds;

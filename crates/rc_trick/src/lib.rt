@@ -1,5 +1,7 @@
 //! The built-in trick game: its text, the law that it is accepted, the plan by which `bench` plays it, and what `bench`
 //! writes.
+//!
+//! Stands on rc_text and rc_sheet.
 #![tactic(auto)]
 
 mod game;

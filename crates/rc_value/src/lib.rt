@@ -1,6 +1,8 @@
 //! What expressions are worth at a table, and what a machine reads of a match and changes in it, whatever it plays on:
 //! numbers, tests, cards and collections, the members of domains, the frames of open stages, scores and the counts of a
 //! control.
+//!
+//! Stands on rc_code and rc_rules, never on rc_form or rc_undo.
 #![tactic(auto)]
 
 mod arithmetic;

@@ -1,4 +1,6 @@
 //! What a seat sees of a match, and the bytes by which a view is known.
+//!
+//! Stands on rc_rules.
 #![tactic(auto)]
 
 mod key;
