@@ -9,7 +9,7 @@ from faults.tokens import tokens
 
 ROOT = Path(__file__).resolve().parent.parent
 SHEET = ROOT / "bench/tricks.sheet"
-CODE = ROOT / "crates/rc_trick/src/lib.rt"
+CODE = ROOT / "crates/rc_trick/src/game.rt"
 
 MEND = "change the sheet to what `trick_text` says, which is proved to be accepted; white space and comments mean nothing"
 
