@@ -1,8 +1,8 @@
 //! The commands: which one a list of words names, with its number and its options, and what it answers. `play` plays a
 //! sheet by a plan, `check` judges a transcript of such plays, `migrate` tells one in format 2, `measure` tells its
 //! measures, `watch` tells what a seat sees in a match, `rival` has one strategy search, `sheet` prints a sheet, and
-//! `bench` plays a game of its own. Here a source is answered without ports, as far as nobody has to play for it, with why
-//! it is refused, the statuses that commands end with, and the laws of answers.
+//! `bench` plays a game of its own. Here a source is answered without ports, as far as nobody has to play for it, with
+//! why it is refused, the statuses that commands end with, and the laws of answers.
 //!
 //! Stands on rc_outside, rc_plan, rc_measure, rc_rivals, rc_watch, rc_judge and rc_trick.
 #![tactic(auto)]

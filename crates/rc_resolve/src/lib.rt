@@ -1,8 +1,8 @@
 //! The names of a sheet's form, numbered by their first mention, and the decks and points of its setup.
 //!
 //! [`naming_of`] goes over a form whose shape is right, and gives the words of each kind in the order in which the
-//! printed form mentions them first. By the numbers that attributes and values have, [`read_deck`] reads a deck tree and
-//! [`read_entries`] a point map.
+//! printed form mentions them first. By the numbers that attributes and values have, [`read_deck`] reads a deck tree
+//! and [`read_entries`] a point map.
 //!
 //! Stands on rc_check and rc_ast, never on rc_play_spec.
 #![tactic(auto)]

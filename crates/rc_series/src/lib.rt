@@ -1,5 +1,5 @@
-//! The records of a plan's matches, played in order on the flat machine by any chooser, what is told of all of them, and
-//! their standings.
+//! The records of a plan's matches, played in order on the flat machine by any chooser, what is told of all of them,
+//! and their standings.
 //!
 //! Stands on rc_cache, rc_rollout, rc_match and rc_text, never on rc_plain.
 #![tactic(auto)]
