@@ -6,11 +6,11 @@ use Rattle.rc_base.specs.Transcript.{line}
 use Rattle.rc_measure.specs.Measures.{Measures}
 
 abbrev pub number_at : List ℤ → ℕ → List ℕ
-number_at row place = signed_decimal (slice_index_or row place (pos 0))
+number_at numbers place = signed_decimal (slice_index_or numbers place (pos 0))
 
 -- a fraction as it is
 abbrev pub fraction_line : List ℕ → List ℤ → List ℕ
-fraction_line word row = line (word ++ number_at row 0 ++ codes "/" ++ number_at row 1)
+fraction_line word fraction = line (word ++ number_at fraction 0 ++ codes "/" ++ number_at fraction 1)
 
 -- numbers, each behind a space
 abbrev pub spaced : List ℤ → List ℕ
