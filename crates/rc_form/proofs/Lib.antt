@@ -1,6 +1,6 @@
 pub mod Tokens
 pub mod ReadSteps
-pub mod LastOpen
+pub mod OpenLists
 pub mod SpelledIsRead
 pub mod Ascending
 pub mod ReadIsSpelled

@@ -10,50 +10,49 @@ use crate::word::WordRef;
 use rc_base::limits::{MOST_BYTES, MOST_OPEN};
 use std::alloc::{AllocError, Global};
 
-/// A list whose `)` hasn't come yet.
-#[derive(Drop)]
-pub struct OpenList<'t> {
+/// A list whose `)` hasn't come yet: where its `(` stands, and how many of the reader's forms stand before its parts.
+#[derive(Clone, Copy)]
+pub struct OpenList {
     from: u32,
-    items: Vec<Form<'t>>,
+    start: usize,
 }
 
-/// What is read so far. The innermost open list is the last.
+/// What is read so far: the complete lists, and behind them the parts of the open lists, those of the innermost last.
+/// The innermost open list is the last.
+///
+/// A list takes its parts with it when it closes, into just enough memory: most lists are short, and a text may have
+/// very many of them.
 #[derive(Drop)]
 pub struct FormReader<'t> {
-    alloc: Global,
     want: usize,
-    list: Vec<Form<'t>>,
-    open_lists: Vec<OpenList<'t>>,
+    forms: Vec<Form<'t>>,
+    open_lists: Vec<OpenList>,
 }
 
-/// These forms, with room for one more at most unless memory ran out. Most lists are short, and a text may have very
-/// many of them. What has more room is copied into just enough, and its memory serves the next list: a part cut off
-/// behind would not.
+/// These forms, in just enough memory where there is any for a copy.
 fn without_spare<'t>(mut forms: Vec<Form<'t>>) -> Vec<Form<'t>>
     ensures { result.items ≡ forms.entry.items }
 {
-    if forms.capacity() - forms.len() > 1
-        && let Ok(kept) = forms.split_off(0)
-    {
-        return kept;
+    match forms.split_off(0) {
+        Ok(kept) => kept,
+        Err(_) => forms,
     }
-    forms
 }
 
 impl<'t> FormReader<'t> {
     ghost use Rattle.rc_form.specs.Read.{read};
-    ghost use Rattle.rc_form.specs.Reader.{reads, reads_with, is_reading, FaultIs};
+    ghost use Rattle.rc_form.specs.Reader.{reads, reads_with, is_reading, IsInOrder, FaultIs};
     ghost use Rattle.rc_form.specs.Form.{tree_of, trees_of};
     ghost use Rattle.rc_form.specs.Lexer.{tokens_at, begins_token};
 
     /// A reader that has read nothing, and wants this number of lists.
     pub fn new(alloc: Global, want: usize) -> FormReader<'t>
-        ensures { (ts : List Token) → reads result ts ≡ read want [] [] ts }
+        ensures reads { (ts : List Token) → reads result ts ≡ read want [] [] ts }
+        ensures in_order { IsInOrder result }
     {
         FormReader {
-            alloc,
             want,
-            list: Vec::new(alloc),
+            forms: Vec::new(alloc),
             open_lists: Vec::new(alloc),
         }
     }
@@ -62,12 +61,14 @@ impl<'t> FormReader<'t> {
     pub fn is_reading(&self) -> bool
         ensures { result ≡ is_reading self.now }
     {
-        !self.open_lists.is_empty() || self.list.len() < self.want
+        !self.open_lists.is_empty() || self.forms.len() < self.want
     }
 
     /// Takes a `(`, and returns the offset behind it.
     fn open(&mut self, at: u32) -> Result<usize, FormFail>
-        requires { IsTrue (is_reading self.old) }
+        requires reading { IsTrue (is_reading self.old) }
+        requires in_order { IsInOrder self.old }
+        ensures in_order { OnOk result (IsInOrder self.new) }
         ensures behind { IfOk result (λ to. to ≡ at + 1) }
         ensures took { (ts : List Token) → OnOk result (reads self.old (opening at ∷ ts) ≡ reads self.new ts) }
         ensures fault { (ts : List Token) → IfErr result (FaultIs (reads self.old (opening at ∷ ts))) }
@@ -77,7 +78,7 @@ impl<'t> FormReader<'t> {
         }
         let list = OpenList {
             from: at,
-            items: Vec::new(self.alloc),
+            start: self.forms.len(),
         };
         if self.open_lists.push(list).is_err() {
             return Err(FormFail::Memory);
@@ -88,19 +89,21 @@ impl<'t> FormReader<'t> {
     /// Puts a form into the innermost open list, or where none is open behind the complete lists.
     #[inline(always)]
     fn put(&mut self, form: Form<'t>) -> Result<(), AllocError>
-        ensures { (ts : List Token) → OnOk result (reads_with self.old (tree_of form.entry) ts ≡ reads self.new ts) }
+        requires { IsInOrder self.old }
+        ensures took { (ts : List Token) → OnOk result (reads_with self.old (tree_of form.entry) ts
+            ≡ reads self.new ts) }
+        ensures in_order { OnOk result (IsInOrder self.new) }
     {
-        match self.open_lists.last_mut() {
-            Some(inner) => inner.items.push(form)?,
-            None => self.list.push(form)?,
-        }
+        self.forms.push(form)?;
         Ok(())
     }
 
     /// Takes a `)`, and returns the offset behind it.
     fn close(&mut self, at: u32) -> Result<usize, FormFail>
         requires reading { IsTrue (is_reading self.old) }
+        requires in_order { IsInOrder self.old }
         requires small { at < longest_text }
+        ensures in_order { OnOk result (IsInOrder self.new) }
         ensures behind { IfOk result (λ to. to ≡ at + 1) }
         ensures took { (ts : List Token) → OnOk result (reads self.old (closing at ∷ ts) ≡ reads self.new ts) }
         ensures fault { (ts : List Token) → IfErr result (FaultIs (reads self.old (closing at ∷ ts))) }
@@ -108,7 +111,9 @@ impl<'t> FormReader<'t> {
         let Some(inner) = self.open_lists.pop() else {
             return Err(FormFail::at(FormKind::Stray, at));
         };
-        let items = without_spare(inner.items);
+        let Ok(items) = self.forms.split_off(inner.start) else {
+            return Err(FormFail::Memory);
+        };
         let span = Span {
             from: inner.from,
             to: at + 1,
@@ -125,6 +130,8 @@ impl<'t> FormReader<'t> {
         requires small { length text.now ≤ longest_text }
         requires inside { from < length text.now }
         requires part { IsTrue (is_part (slice_index text.now from)) }
+        requires in_order { IsInOrder self.old }
+        ensures in_order { OnOk result (IsInOrder self.new) }
         ensures forward { IfOk result (λ to. (from < to) × (to ≤ length text.now)) }
         ensures took { IfOk result (λ to. reads self.old (tokens_at text.now from)
             ≡ reads self.new (tokens_at text.now to)) }
@@ -154,6 +161,8 @@ impl<'t> FormReader<'t> {
         requires small { length text.now ≤ longest_text }
         requires inside { at < length text.now }
         requires begins { IsTrue (begins_token (slice_index text.now at)) }
+        requires in_order { IsInOrder self.old }
+        ensures in_order { OnOk result (IsInOrder self.new) }
         ensures forward { IfOk result (λ to. (at < to) × (to ≤ length text.now)) }
         ensures took { IfOk result (λ to. reads self.old (tokens_at text.now at)
             ≡ reads self.new (tokens_at text.now to)) }
@@ -181,7 +190,7 @@ impl<'t> FormReader<'t> {
     {
         match self.open_lists.last() {
             Some(inner) => Err(FormFail::at(FormKind::Unclosed, inner.from)),
-            None => Ok(self.list),
+            None => Ok(without_spare(self.forms)),
         }
     }
 }

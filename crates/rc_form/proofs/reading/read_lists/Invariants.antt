@@ -2,7 +2,7 @@ use Rattle.std.proofs.Common.{◌≡◌, ◌-◌, ◌<◌, ◌≤◌, length, []
 use Rattle.rc_base.specs.Token.{tokens}
 use Rattle.rc_form.specs.Lexer.{tokens_at, begins_token}
 use Rattle.rc_form.specs.Read.{read}
-use Rattle.rc_form.specs.Reader.{reads}
+use Rattle.rc_form.specs.Reader.{reads, IsInOrder}
 use Rattle.rc_form.proofs.reading.read_lists.Given as goal
 
 -- what reading gives from here is what it gives from the start
@@ -11,6 +11,7 @@ invariant-loop-at l =
     record {
       within : l.at ≤ length l.text;
       begins : l.at < length l.text → IsTrue (begins_token (slice_index l.text l.at));
+      in_order : IsInOrder l.reader;
       same : read l.want [] [] (tokens l.text) ≡ reads l.reader (tokens_at l.text l.at);
     }
 

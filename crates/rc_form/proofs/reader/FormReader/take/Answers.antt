@@ -1,8 +1,8 @@
-use Rattle.std.proofs.Common.{◌≡◌, ℕ, ◌+◌, Result, Ok, Err, map, reverse, sym, subst}
+use Rattle.std.proofs.Common.{◌≡◌, ℕ, ◌+◌, Result, Ok, Err, sym, subst}
 use Rattle.std.specs.Result.{IfOk, OnOk}
-use Rattle.std.proofs.lemmas.List.{length-reverse, length-map}
-use Rattle.rc_form.specs.Form.{trees_of}
-use Rattle.rc_form.specs.Reader.{pending_of}
+use Rattle.std.proofs.lemmas.List.{length-reverse}
+use Rattle.rc_form.specs.Reader.{done_of, stack_of, innermost_first}
+use Rattle.rc_form.proofs.OpenLists.{is_wanted}
 use Rattle.rc_form.proofs.ReadSteps.{read_odd}
 use Rattle.rc_form.specs.Lexer.{tokens_at}
 use Rattle.rc_form.proofs.Tokens.{tokens_at-opening, tokens_at-closing, tokens_at-odd}
@@ -27,7 +27,9 @@ pub returns-clause-fault : goal.returns-clause-fault
 returns-clause-fault c =
     let reader = c.args.self.now in
     rw (tokens_at-odd c.args.text.now c.args.at c.requires.inside c.requires.begins (sym c.if-may_stand_in_atom.ensures) c.if-byte-eq40.false c.if-byte-eq41.false, c.at.ensures)
-    (read_odd reader.want (trees_of reader.list.items) (reverse (map pending_of reader.open_lists.items)) c.args.at (tokens_at c.args.text.now (c.args.at + 1)) (simp (length-reverse, length-map) c.requires.reading))
+    (read_odd reader.want (done_of reader) (stack_of reader) c.args.at (tokens_at c.args.text.now (c.args.at + 1))
+    (is_wanted reader.want (innermost_first reader) reader.forms.items
+    (rw (length-reverse reader.open_lists.items) c.requires.reading)))
 
 pub returns-then-byte-eq40-clause-took : goal.returns-then-byte-eq40-clause-took
 returns-then-byte-eq40-clause-took c =
