@@ -3,13 +3,13 @@ use Rattle.std.proofs.Common.{◌≡◌, ℕ, Bool, true, false, ◌&&◌, ◌||
 use Rattle.std.specs.List.{find}
 use Rattle.std.proofs.lemmas.Slice.Eq.{bytes_eq-Decides}
 use Rattle.std.proofs.lemmas.Bool.{and_right}
-use Rattle.rc_base.specs.Tree.{Tree, word, list, Trees, nil}
+use Rattle.rc_base.specs.Tree.{Tree, word, list, Trees, nil, cons}
 use Rattle.rc_base.specs.Words.{is_variable}
 use Rattle.rc_check.specs.Keyword.{text_of}
 use Rattle.rc_check.specs.Grammar.{forms_of, front_of}
 use Rattle.rc_check.specs.Faults.{is_word, is_form_word, may_begin, fits_head, begins, unless, is_told, second_word, told_rule, plain_rule}
 use Rattle.rc_check.specs.Spelling.{keyword_of}
-use Rattle.rc_check.specs.Head.{tree_by, wants_second}
+use Rattle.rc_check.specs.Head.{tree_by, wants_second, begin_with_word}
 use Rattle.rc_check.proofs.Spelled.{is_spelled, none_is_spelled}
 use Rattle.rc_check.specs.declared.fault.SheetKind.TheVariants.{Shape}
 use Rattle.rc_check.specs.declared.head.Head.{Head}
@@ -178,3 +178,18 @@ pub none_told : (place : Symbol) (head : Head) (tree : Tree) (others : Trees) �
 none_told place head tree others not_wanted same =
     find_none (λ r. begins tree r && is_told (second_word r) others)
     (λ r. ap (λ begun. begun && is_told (second_word r) others) (same r) ∙ not_told head others not_wanted r) (forms_of place)
+
+-- what is no word tells no form
+no_word_told : (second : Option Keyword) (others : Trees) (begun : Bool) → begin_with_word others ≡ false
+    → (begun && is_told second others) ≡ false
+no_word_told second others false no_word = refl
+no_word_told None others true no_word = refl
+no_word_told (Some keyword) nil true no_word = refl
+no_word_told (Some keyword) (cons (word bytes from to) rest) true no_word = absurd cc
+no_word_told (Some keyword) (cons (list parts from to) rest) true no_word = refl
+
+pub none_told_by : (place : Symbol) (tree : Tree) (others : Trees) → begin_with_word others ≡ false
+    → told_rule place tree others ≡ None
+none_told_by place tree others no_word =
+    find_none (λ r. begins tree r && is_told (second_word r) others)
+    (λ r. no_word_told (second_word r) others (begins tree r) no_word) (forms_of place)

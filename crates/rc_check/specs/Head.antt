@@ -1,6 +1,6 @@
 -- How a list begins, as far as it tells which forms the list may have.
 use Rattle.std.specs.Prelude.{Bool, true, false, [], ◌∷◌}
-use Rattle.rc_base.specs.Tree.{Tree, word, list, nil}
+use Rattle.rc_base.specs.Tree.{Tree, word, list, Trees, nil, cons}
 use Rattle.rc_check.specs.Keyword.{text_of}
 use Rattle.rc_check.specs.declared.head.Head.{Head}
 use Rattle.rc_check.specs.declared.head.Head.TheVariants.{Word, Variable, Name, List}
@@ -23,3 +23,8 @@ wants_second (Word keyword.Cycle) = true
 wants_second (Word keyword.Current) = true
 wants_second (Word keyword.Team) = true
 wants_second head = false
+
+-- the first of these parts is an atom
+abbrev pub begin_with_word : Trees → Bool
+begin_with_word (cons (word bytes from to) rest) = true
+begin_with_word parts = false

@@ -4,7 +4,7 @@ ghost use Rattle.rc_form.specs.Form.{tree_of, trees_of, packed};
 ghost use Rattle.rc_check.specs.Grammar.{forms_of};
 ghost use Rattle.rc_check.specs.Faults as spec;
 ghost use Rattle.rc_check.specs.Faults.{has_second_word};
-ghost use Rattle.rc_check.specs.Head.{tree_by};
+ghost use Rattle.rc_check.specs.Head.{tree_by, begin_with_word};
 ghost use Rattle.rc_check.specs.declared.grammar.Rule.{Rule};
 
 use crate::atoms::{atom_kind, is_word};
@@ -121,20 +121,35 @@ pub fn rule_of(place: Symbol, parts: &[Form]) -> Option<Rule>
     }
 }
 
-/// The form that the word behind the first part tells. It is looked for where such a word may tell one alone.
+/// The form that the word behind the first part tells. It is looked for where a word stands there that may tell one
+/// alone.
 #[inline(always)]
 fn told_form(place: Symbol, head: Head, first: &Form, others: &[Form]) -> Option<Rule>
     requires head { (rule : Rule) → spec.begins (tree_of first.now) rule ≡ spec.begins (tree_by head) rule }
     ensures { result ≡ spec.told_rule place (tree_of first.now) (packed (trees_of others.now)) }
 {
-    if wants_second(head) {
-        told_rule(place, first, others)
-    } else {
-        None
+    if !wants_second(head) {
+        return None;
+    }
+    if !begin_with_word(others) {
+        return None;
+    }
+    told_rule(place, first, others)
+}
+
+/// Whether the first of these parts is an atom.
+#[inline(always)]
+fn begin_with_word(parts: &[Form]) -> bool
+    ensures { result ≡ begin_with_word (packed (trees_of parts.now)) }
+{
+    match parts.first() {
+        Some(Form::Atom { .. }) => true,
+        _ => false,
     }
 }
 
-/// The form that the word behind the head tells.
+/// The form that the word behind the head tells. Few lists ask for it, so it stands apart from what all ask.
+#[inline(never)]
 fn told_rule(place: Symbol, head: &Form, others: &[Form]) -> Option<Rule>
     ensures { result ≡ spec.told_rule place (tree_of head.now) (packed (trees_of others.now)) }
 {

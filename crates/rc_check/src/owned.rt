@@ -29,6 +29,7 @@ pub struct Mention<'a> {
 }
 
 /// The mention that a list of these parts is.
+#[inline(always)]
 pub fn mention_of<'a>(parts: &[Form<'a>]) -> Mention<'a>
     ensures { mention_seen result ≡ names.mention_of (packed (trees_of parts.now)) }
 {

@@ -187,7 +187,9 @@ impl<'a> Walk<'a> {
         if is_quiet(part, at.place, at.role) {
             return Ok(());
         }
-        self.part(whole, &at, part)
+        // a copy, so that the setting of a quiet part takes no place in memory
+        let setting = at;
+        self.part(whole, &setting, part)
     }
 
     /// The attribute of a group may stand before its branches.
