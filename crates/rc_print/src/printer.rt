@@ -39,8 +39,8 @@ impl Printer {
     pub fn open_part(&mut self, head: &str) -> Result<(), AllocError>
         ensures { OnOk result (self.new.bytes.items ≡ self.old.bytes.items ++ 32 ∷ 40 ∷ head.now) }
     {
-        self.space()?;
-        self.open(head)
+        self.keyword(" (")?;
+        self.keyword(head)
     }
 
     /// Opens a list.

@@ -9,6 +9,7 @@ mod Gathered
 mod Groups
 mod Lengths
 mod Mentioned
+pub mod Own
 mod Steps
 mod Stored
 pub mod Whole

@@ -1,5 +1,6 @@
 //! The names that are known so far.
-ghost use Rattle.std.specs.Prelude.{◌≡◌, [], OnOk, option_map, option_to_list};
+ghost use Rattle.std.specs.Prelude.{◌≡◌, [], length, IsTrue, bytes_eq, OnOk, option_map, option_to_list};
+ghost use Rattle.std.specs.List.{list_any};
 ghost use Rattle.std.specs.Map.{keys_of};
 ghost use Rattle.rc_form.specs.Form.{tree_of, trees_of, packed};
 ghost use Rattle.rc_sheet_spec.specs.FormMentions.{word_of};
@@ -12,6 +13,9 @@ use rc_base::{Firsts, OrderedWord};
 use rc_form::{Form, Word};
 use std::alloc::{AllocError, Global};
 use std::marker::Model;
+
+/// How many entries are looked at before the index of all.
+const MOST_EARLY: usize = 8;
 
 /// The different names of each kind that were mentioned so far, in the order of their first mention, and what the first
 /// mention of a location or of a stored number says.
@@ -78,15 +82,38 @@ impl Known {
         add_word(&mut self.vars, word_of(form))
     }
 
-    /// Adds the names that a list of these parts mentions itself, but for variables.
+    /// Adds the names that a list of these parts mentions itself, but for variables. Lists of three parts and of four
+    /// alone mention any.
     pub fn add_own(&mut self, parts: &[Form]) -> Result<(), AllocError>
+        ensures { OnOk result (self.new ≡ with_all self.old (own (packed (trees_of parts.now)))) }
+    {
+        match parts {
+            [_, _, _] => self.add_own_of_three(parts),
+            [_, _, _, _] => self.add_own_of_four(parts),
+            _ => Ok(()),
+        }
+    }
+
+    /// Adds those of a list of three parts: an attribute, and a location or a stored number.
+    #[tactic(auto, using(crate::proofs::Own::no_value_of_three, crate::proofs::Own::no_map_of_three))]
+    fn add_own_of_three(&mut self, parts: &[Form]) -> Result<(), AllocError>
+        requires { length parts.now ≡ 3 }
+        ensures { OnOk result (self.new ≡ with_all self.old (own (packed (trees_of parts.now)))) }
+    {
+        add_word(&mut self.attrs, attr_in(parts))?;
+        self.add_location(loc_in(parts))?;
+        self.add_number(num_in(parts))
+    }
+
+    /// Adds those of a list of four parts: an attribute with its value, and a point map.
+    #[tactic(auto, using(crate::proofs::Own::no_location_of_four, crate::proofs::Own::no_number_of_four))]
+    fn add_own_of_four(&mut self, parts: &[Form]) -> Result<(), AllocError>
+        requires { length parts.now ≡ 4 }
         ensures { OnOk result (self.new ≡ with_all self.old (own (packed (trees_of parts.now)))) }
     {
         add_word(&mut self.attrs, attr_in(parts))?;
         add_word(&mut self.values, value_in(parts))?;
-        add_word(&mut self.maps, map_in(parts))?;
-        self.add_location(loc_in(parts))?;
-        self.add_number(num_in(parts))
+        add_word(&mut self.maps, map_in(parts))
     }
 
     /// Adds the location that a list of these parts mentions itself.
@@ -124,10 +151,10 @@ impl Known {
 fn add_word(words: &mut Firsts<OrderedWord, ()>, word: Option<Word>) -> Result<(), AllocError>
     ensures { OnOk result (keys_of words.new ≡ with_words (keys_of words.old) (option_to_list word)) }
 {
-    if let Some(word) = word {
-        words.insert(OrderedWord::of(word), ())?;
+    match word {
+        Some(word) => add_entry(words, word, ()),
+        None => Ok(()),
     }
-    Ok(())
 }
 
 /// Adds a word with what its mention says, unless the word is known.
@@ -138,5 +165,18 @@ fn add_entry<V: Copy>(
 ) -> Result<(), AllocError>
     ensures { OnOk result (entries.new ≡ with_first (λ e. e.0) entries.old (word, said)) }
 {
-    entries.insert(OrderedWord::of(word), said)
+    let word = OrderedWord::of(word);
+    if is_early(entries.entries(), &word) {
+        return Ok(());
+    }
+    entries.insert(word, said)
+}
+
+/// Whether a word is one of the first entries. Most mentions are of few names, which are found so in less time than in
+/// the index of all.
+fn is_early<V>(entries: &[(OrderedWord, V)], word: &OrderedWord) -> bool
+    ensures { IsTrue result → IsTrue (list_any (λ entry. bytes_eq word.now entry.0) entries.now) }
+{
+    let count = entries.len().min(MOST_EARLY);
+    entries[..count].iter().any(|entry| *word == entry.0)
 }

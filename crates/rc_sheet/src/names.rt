@@ -13,6 +13,7 @@ use crate::made::both_read;
 use crate::reader::Reader;
 use crate::scope::Scope;
 use rc_ast::{Sort, Word};
+use rc_base::is_same;
 use rc_base::limits::MOST_VARIABLES;
 use rc_check::{Keyword, Rule, Symbol, is_form_word, is_variable, rule_of};
 use rc_form::Form;
@@ -35,7 +36,7 @@ fn place_of(words: &[Word], word: &[u8]) -> Option<usize>
     ensures place { result ≡ position (bytes_eq word.now) words.now }
     ensures within { IfSome result (λ place. place < length words.now) }
 {
-    words.iter().position(|other| word == other.bytes())
+    words.iter().position(|other| is_same(word, other.bytes()))
 }
 
 /// The number of a plain word among these, where it is one.
