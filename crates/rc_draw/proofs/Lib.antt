@@ -2,3 +2,4 @@ mod ShuffleSteps
 mod RowLemmas
 mod KeyLemmas
 pub mod LaneLemmas
+mod BlockLemmas

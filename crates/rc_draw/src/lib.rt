@@ -1,29 +1,29 @@
 //! Draws: keys made of four numbers, and the picks and the shuffles that a key decides.
 //!
 //! A key has a sequence of words of 32 bits, those of the generator ChaCha8. What is drawn by a key depends on the key
-//! alone. Of numbered keys the words are generated four at a time, side by side in the lanes of vectors.
+//! alone. Of numbered keys the words are generated four at a time, side by side in the lanes of vectors, and for a
+//! shuffle in blocks of 16, as many as it takes.
 //!
 //! Stands on rc_play_spec, never on rc_ast.
 #![tactic(auto)]
 
+mod block;
 mod lanes;
 mod purpose;
 mod rounds;
 mod sequence;
 mod word;
 
-ghost use Rattle.std.specs.Prelude.{◌≡◌, ◌<◌, ◌≤◌, length};
+ghost use Rattle.std.specs.Prelude.{◌≡◌, ◌<◌, ◌≤◌, ◌+◌, ◌-◌, ◌*◌, ◌⊎◌, length};
 ghost use Rattle.std.specs.List.Sorted.{IsPermutation};
 ghost use Rattle.rc_base.specs.Limits.{most_cards};
 ghost use Rattle.rc_base.specs.Numbers.{below};
 ghost use Rattle.rc_play_spec.specs.Draws as draws;
 ghost use Rattle.rc_play_spec.specs.Table.{taken};
 
+use crate::block::{BLOCK_WORDS, words_of_block};
 use crate::word::{WORDS, first_word};
 pub use purpose::Purpose;
-use rand_chacha::ChaCha8Rng;
-use rand_core::SeedableRng;
-use rand_core::utils::NextWord;
 use rc_play_spec::keys_pick_and_permute;
 pub use sequence::KeySequence;
 
@@ -61,6 +61,28 @@ pub fn pick_by(key: &[u8; 32], n: u32) -> u32
     scale_word(first_word(key), n)
 }
 
+// Goes on with a shuffle by the words of a block: for each place from the last one left down to the second, as long as
+// there are words. The answer is how many places are left.
+#[inline(always)]
+fn shuffle_by_block(key: &[u8; 32], number: u32, list: &mut [u16], left: usize) -> usize
+    requires some { 1 < left }
+    requires few { left ≤ length list.old }
+    requires small { length list.old ≤ most_cards }
+    ensures same { length list.new ≡ length list.old }
+    ensures left { (result ≤ 1) ⊎ (result + 16 ≡ left) }
+    ensures permuted { draws.permuted_by (draws.word_of key.now) (16 * number + (left - result)) result list.new
+        ≡ draws.permuted_by (draws.word_of key.now) (16 * number) left list.old }
+{
+    let words = words_of_block(key, number);
+    let count = (left - 1).min(BLOCK_WORDS);
+    'words: for place in 0..count {
+        let z = left - place;
+        let at = scale_word(words[place], z as u32) as usize;
+        list.swap(at, z - 1);
+    }
+    left - count
+}
+
 /// Puts a list of at most 512 items into the order of a key. From the last place down to the second, each takes what
 /// stands at a place up to it by the key's next word, and gives what it had. A list of fewer than two items stays.
 pub fn shuffle_by(key: &[u8; 32], list: &mut [u16])
@@ -69,12 +91,11 @@ pub fn shuffle_by(key: &[u8; 32], list: &mut [u16])
     ensures permuted { IsPermutation list.old list.new }
 {
     keys_pick_and_permute();
-    let mut rng = ChaCha8Rng::from_seed(*key);
-    let mut z = list.len();
-    while z > 1 {
-        let at = scale_word(rng.next_word(), z as u32) as usize;
-        list.swap(at, z - 1);
-        z -= 1;
+    let mut left = list.len();
+    let mut number = 0;
+    'rest: while left > 1 {
+        left = shuffle_by_block(key, number, list, left);
+        number += 1;
     }
 }
 
