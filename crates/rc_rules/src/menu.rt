@@ -121,10 +121,7 @@ impl Items {
         requires { length self.old.items < most_items }
         ensures items { self.new.items ≡ self.old.items ++ item ∷ [] }
     {
-        match self.list.push(item) {
-            Ok(()) => {}
-            Err(_) => unreachable!(),
-        }
+        self.list.push_reserved(item);
     }
 
     /// Takes out the item at a place, to which the last one goes.
