@@ -12,7 +12,7 @@ use crate::there::{behind, stage_there};
 use rc_ast::Class;
 use rc_code::{CompiledTest, Instruction};
 use rc_rules::{About, Stop};
-use rc_value::{close_frame, member_count, open_frame_by, pass_frame_by};
+use rc_value::{close_frame, member_count, open_frame, pass_frame};
 
 impl State {
     /// Opens the stage that is next.
@@ -26,7 +26,7 @@ impl State {
         ensures ready { IsReady about.now (list_seen code.now) self.new }
         ensures keeps { self.new.board ≡ self.old.board }
     {
-        self.current = open_frame_by(&mut self.control.frames, about, self.current, number, class);
+        self.current = open_frame(&mut self.control.frames, about, self.current, number, class);
         self.place.open();
     }
 
@@ -102,7 +102,7 @@ impl State {
     {
         let stage = stage_there(code, place);
         let count = member_count(about, stage.class);
-        self.current = pass_frame_by(&mut self.control.frames, about, self.current, count);
+        self.current = pass_frame(&mut self.control.frames, about, self.current, count);
         self.place.to_round();
     }
 

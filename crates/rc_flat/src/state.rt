@@ -11,7 +11,7 @@ use crate::place::ProgramCounter;
 use rc_code::CompiledTest;
 use rc_rules::{About, Control, Items, Scores};
 use rc_undo::Board;
-use rc_value::{Current, current_of, has_ended_by, scores_now};
+use rc_value::{Current, code_has_ended, current_of, scores_now};
 
 /// The board, the control, the place in the code, the menu of the decision at which the match stands, and who is
 /// current in the open stages. Where it stands at no decision, the menu is any.
@@ -45,7 +45,7 @@ impl State {
         ensures { result ≡ test_value
             (scene_at about.now self.now.board.laid.table (frames_seen self.now.control.frames.items)) [] end.now }
     {
-        has_ended_by(about, self.current, self.board.table(), &self.control, end)
+        code_has_ended(about, self.current, self.board.table(), &self.control, end)
     }
 
     /// Each player's score.

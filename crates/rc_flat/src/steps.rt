@@ -14,7 +14,7 @@ use crate::{State, behind};
 use rc_code::{Instruction, Offer};
 use rc_deck::Memory;
 use rc_exec::{do_block, front, past};
-use rc_menu::fill_offers_by;
+use rc_menu::fill_offers_at;
 use rc_rules::{About, Dealer, Stop};
 use rc_value::{Bindings, Context};
 
@@ -83,7 +83,7 @@ fn choice_next(
     ensures keeps { state.new.board ≡ state.old.board }
 {
     let current = state.current;
-    fill_offers_by(
+    fill_offers_at(
         about,
         current,
         state.board.table(),

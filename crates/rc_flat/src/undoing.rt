@@ -7,7 +7,7 @@ ghost use Rattle.rc_flat.specs.MarkedMoments.{IsInMatch};
 
 use crate::{State, choice_there};
 use rc_code::Instruction;
-use rc_menu::fill_offers_by;
+use rc_menu::fill_offers_at;
 use rc_rules::About;
 
 /// Finds anew who is current, and fills the menu anew where a decision is next.
@@ -25,7 +25,7 @@ pub fn refill(state: &mut State, about: &About, code: &[Instruction])
         return;
     };
     let choice = choice_there(code, state.place.next());
-    fill_offers_by(
+    fill_offers_at(
         about,
         state.current,
         state.board.table(),

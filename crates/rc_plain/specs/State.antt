@@ -5,9 +5,10 @@ use Rattle.rc_play_spec.specs.Menu.{alts_at}
 use Rattle.rc_play_spec.specs.About.{About, menu_at}
 use Rattle.rc_play_spec.specs.Effects.{Dealing}
 use Rattle.rc_play_spec.specs.Step.{Config, Next, goes, stops, step}
-use Rattle.rc_rules.specs.Control.{control_seen, stop_seen}
+use Rattle.rc_rules.specs.Control.{control_seen, frames_seen, stop_seen}
 use Rattle.rc_rules.specs.Menu.{menu_seen}
 use Rattle.rc_rules.specs.declared.control.Stop.{Stop}
+use Rattle.rc_value.specs.Current.{IsCurrent}
 use Rattle.rc_plain.specs.Paths.{item_at}
 use Rattle.rc_plain.specs.Plain.{Plain, config_of, IsInPlay}
 use Rattle.rc_plain.specs.declared.state.PlainState.{PlainState}
@@ -26,11 +27,12 @@ pub record KeepsMenu (about : About) (state : PlainState) (site : ℕ) : Type 0 
   pub offered : IsOffered (plain_of about state) site
   pub menu : menu_seen state.menu.items ≡ menu_at about site state.table.table (control_seen state.control)
 
--- The table is laid for the shape, and the state is one of a match. Where the control has a site, the choice with it is next,
--- and its menu is kept.
+-- The table is laid for the shape, the state is one of a match, and it is known who is current. Where the control has a
+-- site, the choice with it is next, and its menu is kept.
 pub record IsReady (about : About) (state : PlainState) : Type 0 where
   pub laid : state.table.shape ≡ about.shape
   pub play : IsInPlay (plain_of about state)
+  pub current : IsCurrent about.sheet (frames_seen state.control.frames.items) state.current
   pub kept : (site : ℕ) → state.control.site ≡ Some site → KeepsMenu about state site
 
 abbrev pub config_at : About → PlainState → Config

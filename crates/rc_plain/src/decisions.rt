@@ -6,6 +6,8 @@ ghost use Rattle.rc_play_spec.specs.Decision.{choose};
 ghost use Rattle.rc_ast.specs.Items.{alts_seen};
 ghost use Rattle.rc_rules.specs.Machine.{StopsAtDecision, menu_here};
 ghost use Rattle.rc_rules.specs.Menu.{item_seen};
+ghost use Rattle.rc_rules.specs.Control.{frames_seen};
+ghost use Rattle.rc_value.specs.Current.{IsCurrent};
 ghost use Rattle.rc_plain.specs.Paths.{item_at};
 ghost use Rattle.rc_plain.specs.Plain.{IsInPlay, chosen_item};
 ghost use Rattle.rc_plain.specs.State.{IsReady, plain_of, config_at};
@@ -14,7 +16,7 @@ use crate::do_item;
 use crate::state::PlainState;
 use rc_ast::Alt;
 use rc_rules::{About, Dealer, Item};
-use rc_value::{count_decision, current_of};
+use rc_value::count_decision;
 
 impl PlainState {
     /// Takes an item out of the menu of the decision that is next, and does its effects.
@@ -36,6 +38,7 @@ impl PlainState {
     fn choose<D: Dealer>(&mut self, about: &About, alts: &[Alt], item: &Item, dealer: &mut D)
         requires laid { self.old.table.shape ≡ about.now.shape }
         requires play { IsInPlay (plain_of about.now self.old) }
+        requires current { IsCurrent about.now.sheet (frames_seen self.old.control.frames.items) self.old.current }
         requires here { (site : ℕ) × (item_at about.now.sheet self.old.path ≡ Some (choice site (alts_seen alts.now))) }
         requires fits { self.old.path.next + 1 < 2 ^ 64 }
         requires below { self.old.control.turn < about.now.turns }
@@ -49,13 +52,11 @@ impl PlainState {
     {
         // what an about keeps
         let _turns = about.turns();
-        let current = current_of(
-            about.sheet(),
-            about.lookup(),
-            self.control.frames.as_slice(),
-        );
+        let _sheet = about.sheet();
+        let current = self.current;
         do_item(
             about,
+            current,
             alts,
             item,
             &mut self.table,

@@ -8,7 +8,9 @@ ghost use Rattle.rc_play_spec.specs.Bound.{IsBindOf, IsCardOf};
 ghost use Rattle.rc_play_spec.specs.Effects.{does_one, does, times as times_in};
 ghost use Rattle.rc_ast.specs.Expressions.{coll_seen, int_seen, test_seen, domain_seen};
 ghost use Rattle.rc_ast.specs.Effects.{effect_seen, effects_seen};
+ghost use Rattle.rc_rules.specs.Control.{frames_seen};
 ghost use Rattle.rc_value.specs.Cards.{value_seen, values_seen};
+ghost use Rattle.rc_value.specs.Current.{IsCurrent};
 ghost use Rattle.rc_value.specs.Seen.{bind_seen};
 ghost use Rattle.rc_value.specs.Point.{point_of};
 ghost use Rattle.rc_value.specs.Under.{IsCollUnder, IsEffectUnder, AreEffectsUnder};
@@ -25,13 +27,15 @@ use rc_base::limits::MOST_TIMES;
 use rc_rules::{About, Dealer, Frames};
 use rc_table::Table;
 use rc_value::{
-    Bind, Bindings, Card, Cards, Change, Context, FewCards, cards_now, current_of, few_cards_now,
+    Bind, Bindings, Card, Cards, Change, Context, Current, FewCards, cards_now, few_cards_now,
     int_now, name_next, test_now, turn_round,
 };
 
-/// Does effects, one after the other, under the variables of a scope. It takes no memory.
+/// Does effects, one after the other, under the variables of a scope. No effect changes who is current. It takes no
+/// memory.
 pub fn do_effects<D: Dealer>(
     about: &About,
+    current: Current,
     scope: &Bindings,
     effects: &Vec<Effect>,
     table: &mut Table,
@@ -39,15 +43,16 @@ pub fn do_effects<D: Dealer>(
     dealer: &mut D,
 )
     requires shape { table.old.shape ≡ about.now.shape }
+    requires current { IsCurrent about.now.sheet (frames_seen frames.old.items) current }
     requires well { AreEffectsUnder about.now.sheet scope.now (effects_seen effects.now.items) }
     requires bound { All (IsBindOf about.now.shape) scope.now }
     ensures does { does about.now (D.dealing dealer.old) scope.now (effects_seen effects.now.items)
         (point_of table.old frames.old.items (D.state dealer.old))
         ≡ point_of table.new frames.new.items (D.state dealer.new) }
     ensures shape { table.new.shape ≡ about.now.shape }
+    ensures current { IsCurrent about.now.sheet (frames_seen frames.new.items) current }
     ensures dealing { D.dealing dealer.new ≡ D.dealing dealer.old }
 {
-    let current = current_of(about.sheet(), about.lookup(), frames.as_slice());
     let context = Context {
         about,
         scope,

@@ -10,6 +10,7 @@ ghost use Rattle.rc_play_spec.specs.Effects.{does};
 ghost use Rattle.rc_ast.specs.Expressions.{domain_seen};
 ghost use Rattle.rc_ast.specs.Items.{alt_seen, alts_seen};
 ghost use Rattle.rc_rules.specs.Control.{frames_seen};
+ghost use Rattle.rc_value.specs.Current.{IsCurrent};
 ghost use Rattle.rc_value.specs.Seen.{bind_seen};
 ghost use Rattle.rc_value.specs.Point.{point_of};
 ghost use Rattle.rc_value.specs.Under.{IsAltUnder, IsDomainUnder};
@@ -20,13 +21,14 @@ use crate::effects::do_all;
 use rc_ast::{Alt, Domain};
 use rc_rules::{About, Dealer, Frames, Item};
 use rc_table::Table;
-use rc_value::{Bind, Bindings, Cards, Context, bare_bind_at, bind_of, current_of, member_at};
+use rc_value::{Bind, Bindings, Cards, Context, Current, bare_bind_at, bind_of, member_at};
 
 /// Does the effects of an item of a menu, with its variables bound. It takes no memory.
 ///
 /// An alternative that isn't there has no effects, and a position that isn't there stands for player 0.
 pub fn do_item<D: Dealer>(
     about: &About,
+    current: Current,
     alts: &[Alt],
     item: &Item,
     table: &mut Table,
@@ -34,6 +36,7 @@ pub fn do_item<D: Dealer>(
     dealer: &mut D,
 )
     requires shape { table.old.shape ≡ about.now.shape }
+    requires current { IsCurrent about.now.sheet (frames_seen frames.old.items) current }
     requires well { AreAltsOutside about.now.sheet (alts_seen alts.now) }
     ensures does { let alt = alt_in (alts_seen alts.now) item.now.alt in
         does about.now (D.dealing dealer.old)
@@ -42,13 +45,13 @@ pub fn do_item<D: Dealer>(
         (point_of table.old frames.old.items (D.state dealer.old))
         ≡ point_of table.new frames.new.items (D.state dealer.new) }
     ensures shape { table.new.shape ≡ about.now.shape }
+    ensures current { IsCurrent about.now.sheet (frames_seen frames.new.items) current }
     ensures dealing { D.dealing dealer.new ≡ D.dealing dealer.old }
 {
     let Some(alt) = alts.get(item.alt as usize) else {
         return;
     };
     let scope = Bindings::empty();
-    let current = current_of(about.sheet(), about.lookup(), frames.as_slice());
     let context = Context {
         about,
         scope: &scope,
@@ -75,6 +78,7 @@ fn do_alt<D: Dealer>(
         (point_of table.old frames.old.items (D.state dealer.old))
         ≡ point_of table.new frames.new.items (D.state dealer.new) }
     ensures shape { table.new.shape ≡ context.now.about.now.shape }
+    ensures current { IsCurrent context.now.about.now.sheet (frames_seen frames.new.items) context.now.current }
     ensures dealing { D.dealing dealer.new ≡ D.dealing dealer.old }
 {
     match alt {
@@ -110,6 +114,7 @@ fn do_any<D: Dealer>(
         (point_of table.old frames.old.items (D.state dealer.old))
         ≡ point_of table.new frames.new.items (D.state dealer.new) }
     ensures shape { table.new.shape ≡ context.now.about.now.shape }
+    ensures current { IsCurrent context.now.about.now.sheet (frames_seen frames.new.items) context.now.current }
     ensures dealing { D.dealing dealer.new ≡ D.dealing dealer.old }
 {
     match spots.split_first() {
@@ -147,6 +152,7 @@ fn do_member<D: Dealer>(
         (point_of table.old frames.old.items (D.state dealer.old))
         ≡ point_of table.new frames.new.items (D.state dealer.new) }
     ensures shape { table.new.shape ≡ context.now.about.now.shape }
+    ensures current { IsCurrent context.now.about.now.sheet (frames_seen frames.new.items) context.now.current }
     ensures dealing { D.dealing dealer.new ≡ D.dealing dealer.old }
 {
     let mut room = Cards::new();
@@ -178,6 +184,7 @@ fn do_bound<D: Dealer>(
         (point_of table.old frames.old.items (D.state dealer.old))
         ≡ point_of table.new frames.new.items (D.state dealer.new) }
     ensures shape { table.new.shape ≡ context.now.about.now.shape }
+    ensures current { IsCurrent context.now.about.now.sheet (frames_seen frames.new.items) context.now.current }
     ensures dealing { D.dealing dealer.new ≡ D.dealing dealer.old }
 {
     let scope = context.scope.with(bind);

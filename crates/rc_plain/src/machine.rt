@@ -14,14 +14,14 @@ ghost use Rattle.rc_plain.specs.Plain.{config_of};
 
 use crate::path::Path;
 use crate::site::{path_of, site_of};
-use crate::state::PlainState;
+use crate::state::{PlainState, current_in};
 use rc_deck::Memory;
 use rc_flow::Checked;
 use rc_menu::{copy_menu, fill_menu_at};
 use rc_play_spec::sites_fix_choices;
 use rc_rules::{About, Bounds, Control, Dealer, Items, Machine, Menu, Scores, Stop};
 use rc_table::{Shape, Table};
-use rc_value::{new_control, scores_now};
+use rc_value::{Current, new_control, scores_now};
 use std::alloc::Global;
 use std::marker::Model;
 use std::sync::Arc;
@@ -127,6 +127,8 @@ impl PlainMachine {
                 control,
                 path: Path::start(),
                 menu,
+                // no stage is open
+                current: Current { player: 0, team: 0 },
             },
         }
     }
@@ -159,7 +161,9 @@ impl PlainMachine {
         let _sheet = about.sheet();
         let site = site_of(&control);
         let path = path_of(&about, site);
-        fill_menu_at(&about, &table, &control, site, path.alts(&about), &mut menu);
+        let current = current_in(&about, &control);
+        let alts = path.alts(&about);
+        fill_menu_at(&about, current, &table, &control, site, alts, &mut menu);
         PlainMachine {
             about,
             state: PlainState {
@@ -167,6 +171,7 @@ impl PlainMachine {
                 control,
                 path,
                 menu,
+                current,
             },
         }
     }

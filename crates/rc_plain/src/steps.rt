@@ -12,14 +12,12 @@ ghost use Rattle.rc_plain.specs.Paths.{item_at};
 ghost use Rattle.rc_plain.specs.State.{KeepsMenu, IsReady, config_at, next_seen, LeadsTo};
 
 use crate::do_effects;
-use crate::state::PlainState;
+use crate::state::{PlainState, current_in};
 use rc_ast::{Alt, Class, Effect, SheetItem, Test};
 use rc_menu::fill_menu_at;
 use rc_play_spec::{sites_fix_choices, stops_stay};
 use rc_rules::{About, Dealer, Stop};
-use rc_value::{
-    Bindings, close_frame, current_of, has_ended, member_count, open_frame, pass_frame,
-};
+use rc_value::{Bindings, close_frame, has_ended, member_count, open_frame, pass_frame};
 
 impl PlainState {
     /// Does the effects that are next.
@@ -36,6 +34,7 @@ impl PlainState {
         let _sheet = about.sheet();
         do_effects(
             about,
+            self.current,
             &Bindings::empty(),
             effects,
             &mut self.table,
@@ -58,6 +57,7 @@ impl PlainState {
         let _sheet = about.sheet();
         fill_menu_at(
             about,
+            self.current,
             &self.table,
             &self.control,
             site,
@@ -81,14 +81,9 @@ impl PlainState {
         if self.control.turn >= about.turns() {
             return Some(Stop::Limit);
         }
-        let current = current_of(
-            about.sheet(),
-            about.lookup(),
-            self.control.frames.as_slice(),
-        );
         self.control.site = Some(site);
         Some(Stop::Decide {
-            seat: current.player,
+            seat: self.current.player,
             site,
         })
     }
@@ -107,7 +102,7 @@ impl PlainState {
         }
         // what an about keeps
         let _sheet = about.sheet();
-        open_frame(&mut self.control.frames, about, number, class);
+        self.current = open_frame(&mut self.control.frames, about, self.current, number, class);
         self.path.open();
         None
     }
@@ -124,8 +119,9 @@ impl PlainState {
     {
         // what an about keeps
         let _sheet = about.sheet();
-        if has_ended(about, &self.table, &self.control, end) {
+        if has_ended(about, self.current, &self.table, &self.control, end) {
             close_frame(&mut self.control.frames);
+            self.current = current_in(about, &self.control);
             self.path.pass();
             return None;
         }
@@ -148,7 +144,7 @@ impl PlainState {
             return Some(Stop::Done);
         }
         let count = member_count(about, self.path.class(about));
-        pass_frame(&mut self.control.frames, count);
+        self.current = pass_frame(&mut self.control.frames, about, self.current, count);
         None
     }
 

@@ -1,7 +1,7 @@
 -- The innermost frame as the last of a list.
-use Rattle.std.proofs.Common.{◌≡◌, ℕ, List, [], ◌∷◌, ◌++◌, refl, ap}
+use Rattle.std.proofs.Common.{◌≡◌, List, [], ◌∷◌, ◌++◌, refl, ap}
 use Rattle.rc_play_spec.specs.Control.{Frame as PureFrame}
-use Rattle.rc_play_spec.specs.Step.{closed, passed, with_next}
+use Rattle.rc_play_spec.specs.Step.{closed}
 use Rattle.rc_rules.specs.Control.{frames_seen, frame_seen}
 use Rattle.rc_rules.specs.declared.control.Frame.{Frame}
 
@@ -9,12 +9,6 @@ pub closed-append : (frames : List PureFrame) (frame : PureFrame) → closed (fr
 closed-append [] frame = refl
 closed-append (f ∷ []) frame = refl
 closed-append (f ∷ g ∷ frames) frame = ap (λ fs. f ∷ fs) (closed-append (g ∷ frames) frame)
-
-pub passed-append : (count : ℕ) (frames : List PureFrame) (frame : PureFrame) →
-    passed count (frames ++ frame ∷ []) ≡ frames ++ with_next count frame ∷ []
-passed-append count [] frame = refl
-passed-append count (f ∷ []) frame = refl
-passed-append count (f ∷ g ∷ frames) frame = ap (λ fs. f ∷ fs) (passed-append count (g ∷ frames) frame)
 
 pub frames_seen-append : (frames : List Frame) (frame : Frame) → frames_seen (frames ++ frame ∷ []) ≡ frames_seen frames ++ frame_seen frame ∷ []
 frames_seen-append [] frame = refl

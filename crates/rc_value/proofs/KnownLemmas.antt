@@ -50,6 +50,11 @@ helds : (at : ℕ) (ids : List ℕ) → map held ids ≡ map (value_in false at)
 helds at [] = refl
 helds at (id ∷ ids) = ap (λ cards. held id ∷ cards) (helds at ids)
 
+pub helds_kept : (b : Bool) (id : ℕ) (ids : List ℕ) →
+    map held (cond b (id ∷ ids) ids) ≡ cond b (held id ∷ map held ids) (map held ids)
+helds_kept true id ids = refl
+helds_kept false id ids = refl
+
 kept_few : (b : Bool) (x : ℕ) (xs : List ℕ) (n : ℕ) → length xs ≤ n → length (cond b (x ∷ xs) xs) ≤ suc n
 kept_few true x xs n le = omega (arith, le)
 kept_few false x xs n le = omega (arith, le)

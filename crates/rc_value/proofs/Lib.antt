@@ -6,6 +6,7 @@ pub mod Faces
 pub mod Best
 pub mod Firsts
 pub mod WantedLemmas
+pub mod OnceLemmas
 pub mod RowLemmas
 pub mod HoldingLemmas
 pub mod ComparingLemmas

@@ -25,7 +25,7 @@ at_end (b ∷ vars) m = at_end vars m
 nat_turned : (a b : ℕ) → (a == b) ≡ (b == a)
 nat_turned a b = grind (arith, nat_tests)
 
-both_turned : (a b : Option ℕ) → both nat_same a b ≡ both nat_same b a
+pub both_turned : (a b : Option ℕ) → both nat_same a b ≡ both nat_same b a
 both_turned None None = refl
 both_turned None (Some b) = refl
 both_turned (Some a) None = refl
@@ -48,14 +48,15 @@ face_of_turned [] (q ∷ y) = refl
 face_of_turned (p ∷ x) [] = refl
 face_of_turned (p ∷ x) (q ∷ y) = ap₂ ◌&&◌ (nat_turned p.0 q.0) (ap₂ ◌&&◌ (nat_turned p.1 q.1) (face_of_turned x y))
 
-faces_turned : (a b : Option (List (ℕ × ℕ))) → both face_eq a b ≡ both face_eq b a
+pub faces_turned : (a b : Option (List (ℕ × ℕ))) → both face_eq a b ≡ both face_eq b a
 faces_turned None None = refl
 faces_turned None (Some b) = refl
 faces_turned (Some a) None = refl
 faces_turned (Some a) (Some b) = face_of_turned a b
 
 module _ (s : PureScene CardValue) (vars : List (PureBind CardValue)) where
-  variable_is : (c : CardValue) (e : CardExpr) → e ≡ card_var (length vars) → card_value s (vars ++ card_bound c ∷ []) e ≡ Some c
+  pub variable_is : (c : CardValue) (e : CardExpr) → e ≡ card_var (length vars) →
+      card_value s (vars ++ card_bound c ∷ []) e ≡ Some c
   variable_is c e is = ap (card_value s (vars ++ card_bound c ∷ [])) is ∙ ap card_of (at_end vars (card_bound c))
 
   once_is : (c : CardValue) (e : CardExpr) (other : ℕ) (value : Option ℕ) → reads_card (length vars) e ≡ false →
@@ -154,8 +155,3 @@ module _ (s : PureScene CardValue) (place : ℕ) where
       w ≡ Some (record { name = name; value = Some value; equal = true }) → IfSome w (IsWantedAt s place t)
   wanted_named t a name value w is variable e =
       subst (λ w. IfSome w (IsWantedAt s place t)) (sym e) (λ vars count. value_is s vars t a name value is (variable ∙ ap card_var (sym count)))
-
-  -- in one of them
-  pub wanted_here : (vars : List (PureBind CardValue)) (t : Test) (w : Option WantedValue) → place ≡ length vars → IfSome w (IsWantedAt s place t) → IfSome w (IsWanted s vars t)
-  wanted_here vars t None count h = h
-  wanted_here vars t (Some w) count h = h vars (sym count)

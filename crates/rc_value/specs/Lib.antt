@@ -9,6 +9,7 @@ pub mod Groups
 pub mod Current
 pub mod Wanted
 pub mod Sought
+pub mod Once
 pub mod Holding
 pub mod Comparing
 pub mod Innermost

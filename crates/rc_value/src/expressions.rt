@@ -3,11 +3,12 @@ ghost use Rattle.std.specs.Prelude.{◌≡◌, ◌+◌, ◌<◌, ◌≤◌, ◌+
 ghost use Rattle.rc_base.specs.Limits.{most_in_collection};
 ghost use Rattle.rc_play_spec.specs.Ends.{first_of, last_of};
 ghost use Rattle.rc_play_spec.specs.Scene.{id_of};
-ghost use Rattle.rc_play_spec.specs.Value.{card_value, coll_value, colls_value, int_value, test_value, card_bound, player_bound, attr_of_any, worth_of_any, sum_worth, cut};
+ghost use Rattle.rc_play_spec.specs.Value.{card_value, coll_value, colls_value, int_value, test_value, card_bound, attr_of_any, worth_of_any, sum_worth, cut};
 ghost use Rattle.rc_ast.specs.Expressions.{coll_seen, colls_seen, int_seen, test_seen};
 ghost use Rattle.rc_ast.specs.Expressions.{card_seen};
 ghost use Rattle.rc_value.specs.Cards.{value_seen, values_seen};
-ghost use Rattle.rc_value.specs.Depth.{card_depth, coll_depth, colls_depth, int_depth, test_depth, is_calculated};
+ghost use Rattle.rc_value.specs.Depth.{card_depth, coll_depth, colls_depth, int_depth, test_depth};
+ghost use Rattle.rc_value.specs.Depth.{is_calculated, is_filtered};
 ghost use Rattle.rc_value.specs.Picks.{picked_of};
 ghost use Rattle.rc_value.specs.Scene.{scene_seen};
 
@@ -15,13 +16,13 @@ use crate::arithmetic::{clamped_difference, clamped_product, clamped_sum};
 use crate::cards::id_or_none;
 use crate::collection::Collection;
 use crate::hand::{bare, number_at_hand, value_at_hand};
-use crate::known::fill_known;
+use crate::known::add_known;
 use crate::leaves::{attr_of_id, cards_of, number_of, worth_of_id};
-use crate::loops::{Which, append, card_at, fill, keep, pick_from, sum};
+use crate::loops::{Which, append, pick_from, push_if, sum};
 use crate::rows::{bottom_card, bottom_id, ids_of, top_card, top_id};
 use crate::scene::Scene;
 use crate::scope::{Bind, Bindings};
-use crate::sought::{count_as_sought, fill_as_sought, keep_as_sought};
+use crate::sought::{add_as_sought, count_as_sought};
 use crate::tests::{sought_of, test_of};
 use crate::{Card, Cards};
 use rc_ast::{CardExpr, CollExpr, IntExpr, Test};
@@ -29,90 +30,13 @@ use rc_base::limits::MOST_IN_COLLECTION;
 
 /// The cards of a collection, written into an empty list.
 #[cycle(values)]
+#[inline(always)]
 pub fn coll_of(scene: &Scene, scope: &Bindings, expr: &CollExpr, out: &mut Cards)
     requires empty { out.old.items ≡ [] }
     requires fits { length scope.now + coll_depth (coll_seen expr.now) ≤ 5 }
     ensures { values_seen out.new.items ≡ coll_value (scene_seen scene.now) scope.now (coll_seen expr.now) }
 {
-    match expr {
-        CollExpr::Var(var) => fill(out, &scope.group(*var)),
-        CollExpr::Loc(loc) => fill(out, &cards_of(scene, scope, loc)),
-        CollExpr::Filter(cards, _, test) => match bare(&*scene, &*scope, cards) {
-            Some(all) => pass_from(scene, scope, test, &all, out),
-            None => {
-                coll_of(scene, scope, cards, out);
-                pass(scene, scope, test, out);
-            }
-        },
-        CollExpr::Union(parts) => join(scene, scope, parts, out),
-        CollExpr::Known(loc) => fill_known(scene, scope, loc, out),
-    }
-}
-
-// Writes the cards of a collection that pass into an empty list.
-#[cycle(values)]
-fn pass_from(scene: &Scene, scope: &Bindings, test: &Test, all: &Collection, out: &mut Cards)
-    requires empty { out.old.items ≡ [] }
-    requires fits { length scope.now + (1 + test_depth (test_seen test.now)) ≤ 5 }
-    ensures { values_seen out.new.items
-        ≡ filter (λ c. test_value (scene_seen scene.now) (scope.now ++ card_bound c ∷ [])
-        (test_seen test.now)) all.now }
-{
-    let mut inside = scope.with(Bind::Player(0));
-    match sought_of(scene, scope, &inside, test) {
-        Some(sought) => fill_as_sought(scene, sought, all, out),
-        None => {
-            fill(out, all);
-            pass_asked(scene, scope, &mut inside, test, out);
-        }
-    }
-}
-
-// Keeps those that pass.
-#[cycle(values)]
-fn pass(scene: &Scene, scope: &Bindings, test: &Test, out: &mut Cards)
-    requires fits { length scope.now + (1 + test_depth (test_seen test.now)) ≤ 5 }
-    ensures { values_seen out.new.items
-        ≡ filter (λ c. test_value (scene_seen scene.now) (scope.now ++ card_bound c ∷ []) (test_seen test.now))
-        (values_seen out.old.items) }
-{
-    let mut inside = scope.with(Bind::Player(0));
-    match sought_of(scene, scope, &inside, test) {
-        Some(sought) => keep_as_sought(scene, sought, out),
-        None => pass_asked(scene, scope, &mut inside, test, out),
-    }
-}
-
-// The same, each card asked by itself.
-#[cycle(values)]
-fn pass_asked(scene: &Scene, scope: &Bindings, inside: &mut Bindings, test: &Test, out: &mut Cards)
-    requires inside { inside.old ≡ scope.now ++ player_bound 0 ∷ [] }
-    requires fits { length scope.now + (1 + test_depth (test_seen test.now)) ≤ 5 }
-    ensures { values_seen out.new.items
-        ≡ filter (λ c. test_value (scene_seen scene.now) (scope.now ++ card_bound c ∷ []) (test_seen test.now))
-        (values_seen out.old.items) }
-{
-    let mut kept = 0;
-    for place in 0..out.len() {
-        let card = card_at(&*out, place);
-        inside.rebind(Bind::Card(card));
-        let passes = test_of(scene, &*inside, test);
-        kept = keep(out, kept, card, passes);
-    }
-    out.truncate(kept);
-}
-
-#[cycle(values)]
-#[tactic(auto, using(crate::proofs::Steps::colls_here))]
-fn join(scene: &Scene, scope: &Bindings, parts: &Vec<CollExpr>, out: &mut Cards)
-    requires empty { out.old.items ≡ [] }
-    requires fits { length scope.now + colls_depth (colls_seen parts.now.items) ≤ 5 }
-    ensures { values_seen out.new.items
-        ≡ cut (colls_value (scene_seen scene.now) scope.now (colls_seen parts.now.items)) }
-{
-    for part in parts {
-        add(scene, scope, part, out);
-    }
+    add(scene, scope, expr, out);
 }
 
 // Puts the cards of a collection behind others, as long as there is room.
@@ -123,23 +47,90 @@ fn add(scene: &Scene, scope: &Bindings, expr: &CollExpr, out: &mut Cards)
         ≡ cut (values_seen out.old.items ++ coll_value (scene_seen scene.now) scope.now (coll_seen expr.now)) }
     ensures few { length out.new.items ≤ most_in_collection }
 {
-    match bare(&*scene, &*scope, expr) {
-        Some(cards) => append(out, &cards),
-        None => add_built(scene, scope, expr, out),
+    match expr {
+        CollExpr::Var(var) => append(out, &scope.group(*var)),
+        CollExpr::Loc(loc) => append(out, &cards_of(scene, scope, loc)),
+        CollExpr::Filter(cards, _, test) => match bare(&*scene, &*scope, cards) {
+            Some(all) => add_passing(scene, scope, test, &all, out),
+            None => add_gathered(scene, scope, expr, out),
+        },
+        CollExpr::Union(parts) => add_parts(scene, scope, parts, out),
+        CollExpr::Known(loc) => add_known(scene, scope, loc, out),
     }
 }
 
+// Those of cards that take a list which pass. In a function of its own, since a list is filled where a function begins.
 #[cycle(values)]
 #[inline(never)]
-fn add_built(scene: &Scene, scope: &Bindings, expr: &CollExpr, out: &mut Cards)
+fn add_gathered(scene: &Scene, scope: &Bindings, expr: &CollExpr, out: &mut Cards)
+    requires filters { is_filtered (coll_seen expr.now) ≡ true }
     requires fits { length scope.now + coll_depth (coll_seen expr.now) ≤ 5 }
     ensures cards { values_seen out.new.items
         ≡ cut (values_seen out.old.items ++ coll_value (scene_seen scene.now) scope.now (coll_seen expr.now)) }
     ensures few { length out.new.items ≤ most_in_collection }
 {
-    let mut room = Cards::new();
-    coll_of(scene, scope, expr, &mut room);
-    append(out, &Collection::of_cards(room.as_slice()));
+    match expr {
+        CollExpr::Filter(cards, _, test) => {
+            let mut room = Cards::new();
+            coll_of(scene, scope, cards, &mut room);
+            add_passing(
+                scene,
+                scope,
+                test,
+                &Collection::of_cards(room.as_slice()),
+                out,
+            );
+        }
+        _ => unreachable!(),
+    }
+}
+
+#[cycle(values)]
+#[tactic(auto, using(crate::proofs::Steps::colls_here))]
+fn add_parts(scene: &Scene, scope: &Bindings, parts: &Vec<CollExpr>, out: &mut Cards)
+    requires fits { length scope.now + colls_depth (colls_seen parts.now.items) ≤ 5 }
+    ensures cards { values_seen out.new.items ≡ cut (values_seen out.old.items
+        ++ colls_value (scene_seen scene.now) scope.now (colls_seen parts.now.items)) }
+    ensures few { length out.new.items ≤ most_in_collection }
+{
+    // what a list keeps
+    let _count = out.len();
+    for part in parts {
+        add(scene, scope, part, out);
+    }
+}
+
+// Those of the cards that pass.
+#[cycle(values)]
+fn add_passing(scene: &Scene, scope: &Bindings, test: &Test, all: &Collection, out: &mut Cards)
+    requires fits { length scope.now + (1 + test_depth (test_seen test.now)) ≤ 5 }
+    ensures cards { values_seen out.new.items ≡ cut (values_seen out.old.items ++ filter
+        (λ c. test_value (scene_seen scene.now) (scope.now ++ card_bound c ∷ []) (test_seen test.now)) all.now) }
+    ensures few { length out.new.items ≤ most_in_collection }
+{
+    match sought_of(scene, scope, test) {
+        Some(sought) => add_as_sought(scene, sought, all, out),
+        None => add_asked(scene, scope, test, all, out),
+    }
+}
+
+// The same, each card asked by itself.
+#[cycle(values)]
+fn add_asked(scene: &Scene, scope: &Bindings, test: &Test, all: &Collection, out: &mut Cards)
+    requires fits { length scope.now + (1 + test_depth (test_seen test.now)) ≤ 5 }
+    ensures cards { values_seen out.new.items ≡ cut (values_seen out.old.items ++ filter
+        (λ c. test_value (scene_seen scene.now) (scope.now ++ card_bound c ∷ []) (test_seen test.now)) all.now) }
+    ensures few { length out.new.items ≤ most_in_collection }
+{
+    // what a list keeps
+    let _count = out.len();
+    let mut inside = scope.with(Bind::Player(0));
+    for place in 0..all.len() {
+        let card = all.at(place);
+        inside.rebind(Bind::Card(card));
+        let passes = test_of(scene, &inside, test);
+        push_if(out, card, passes);
+    }
 }
 
 /// The card that an expression stands for.
@@ -354,13 +345,10 @@ fn count_filtered(scene: &Scene, scope: &Bindings, expr: &CollExpr) -> usize
 {
     match expr {
         CollExpr::Filter(cards, _, test) => match bare(&*scene, &*scope, cards) {
-            Some(all) => {
-                let inside = scope.with(Bind::Player(0));
-                match sought_of(scene, scope, &inside, test) {
-                    Some(sought) => count_as_sought(scene, sought, &all),
-                    None => count_built(scene, scope, expr),
-                }
-            }
+            Some(all) => match sought_of(scene, scope, test) {
+                Some(sought) => count_as_sought(scene, sought, &all),
+                None => count_built(scene, scope, expr),
+            },
             None => count_built(scene, scope, expr),
         },
         _ => count_built(scene, scope, expr),

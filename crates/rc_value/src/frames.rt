@@ -6,29 +6,14 @@ ghost use Rattle.rc_rules.specs.Control.{frame_seen, frames_seen};
 ghost use Rattle.rc_value.specs.Current.{IsCurrent};
 
 use crate::stages::member_by;
-use crate::{Current, current_inside, current_of};
+use crate::{Current, current_inside};
 use rc_ast::Class;
 use rc_rules::{About, Frame, Frames};
 
-/// A stage opens at the current member of the nearest stage of its class, forward.
-pub fn open_frame(frames: &mut Frames, about: &About, number: u16, class: Class)
-    requires room { length frames.old.items < 64 }
-    ensures { frames_seen frames.new.items ≡ frames_seen frames.old.items
-        ++ record {
-          stage = number;
-          member = pure_current_in about.now.sheet class
-              (frames_seen frames.old.items);
-          back = false;
-          named = None;
-        } ∷ [] }
-{
-    let current = current_of(about.sheet(), about.lookup(), frames.as_slice());
-    let _inside = open_frame_by(frames, about, current, number, class);
-}
-
-/// The same where it is known who is current: tells who is then.
+/// A stage opens at the current member of the nearest stage of its class, forward. Told who is current, it tells who is
+/// then.
 #[inline(always)]
-pub fn open_frame_by(
+pub fn open_frame(
     frames: &mut Frames,
     about: &About,
     current: Current,
@@ -67,22 +52,9 @@ pub fn close_frame(frames: &mut Frames)
     }
 }
 
-/// The innermost stage, which has so many members, takes its next one.
-pub fn pass_frame(frames: &mut Frames, count: u8)
-    requires { 1 ≤ count }
-    ensures { frames_seen frames.new.items ≡ passed count (frames_seen frames.old.items) }
-{
-    // what a list keeps
-    let _fits = frames.len();
-    match frames.pop() {
-        Some(frame) => frames.push(next_of(frame, count)),
-        None => {}
-    }
-}
-
-/// The same where it is known who is current: tells who is then.
+/// The innermost stage, which has so many members, takes its next one. Told who is current, it tells who is then.
 #[inline(always)]
-pub fn pass_frame_by(frames: &mut Frames, about: &About, current: Current, count: u8) -> Current
+pub fn pass_frame(frames: &mut Frames, about: &About, current: Current, count: u8) -> Current
     requires some { 1 ≤ count }
     requires current { IsCurrent about.now.sheet (frames_seen frames.old.items) current }
     ensures passed { frames_seen frames.new.items ≡ passed count (frames_seen frames.old.items) }

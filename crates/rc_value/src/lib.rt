@@ -28,6 +28,7 @@ mod leaves;
 mod lookup;
 mod loops;
 mod members;
+mod once;
 mod peeking;
 mod players;
 mod reading;
@@ -54,7 +55,7 @@ pub use current::{Current, current_inside, current_of};
 pub use cycling::{class_of, name_next, turn_round};
 pub use expressions::{card_of, coll_of, int_of};
 pub use few::{FewCards, few_cards_now, sole_card_now};
-pub use frames::{close_frame, open_frame, open_frame_by, pass_frame, pass_frame_by};
+pub use frames::{close_frame, open_frame, pass_frame};
 pub use groups::{Values, note_values, regroup, value_at};
 pub use hand::{bare, number_at_hand};
 pub use held::held_among;
@@ -67,7 +68,7 @@ pub use reading::{card_now, cards_now, int_now, loc_now, num_now, test_now, who_
 pub use rows::{ids_of, top_id};
 pub use scene::Scene;
 pub use scope::{Bind, Bindings};
-pub use scoring::{has_ended, has_ended_by, scores_now};
+pub use scoring::{code_has_ended, has_ended, scores_now};
 pub use shuffles::places;
 pub use tests::{test_of, wanted_of};
 pub use wanted::{

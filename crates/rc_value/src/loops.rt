@@ -1,5 +1,6 @@
 //! Loops over the cards of a collection.
-ghost use Rattle.std.specs.Prelude.{◌≡◌, ◌+◌, ◌<◌, ◌++◌, [], ◌≤◌, length, map, fold, pos, ◌+ℤ◌, slice_set, slice_index_or, option_map, int_lt, if◌then◌else◌};
+ghost use Rattle.std.specs.Prelude.{◌≡◌, ◌++◌, ◌∷◌, [], ◌≤◌, length, map, fold, pos, ◌+ℤ◌, int_lt};
+ghost use Rattle.std.specs.Prelude.{option_map, if◌then◌else◌};
 ghost use Rattle.rc_base.specs.Clamp.{clamped};
 ghost use Rattle.rc_base.specs.Limits.{most_in_collection, most_in_list};
 ghost use Rattle.rc_play_spec.specs.Scene.{held};
@@ -46,22 +47,29 @@ pub fn append(all: &mut Cards, more: &Collection)
     }
 }
 
-/// Writes the cards of a collection into an empty list.
-pub fn fill(all: &mut Cards, cards: &Collection)
-    requires empty { all.old.items ≡ [] }
-    ensures { values_seen all.new.items ≡ cards.now }
+// Puts a card behind others, if there is room.
+#[inline(always)]
+fn push(cards: &mut Cards, card: Card)
+    ensures cards { values_seen cards.new.items ≡ cut (values_seen cards.old.items ++ value_seen card ∷ []) }
+    ensures few { length cards.new.items ≤ most_in_collection }
 {
-    // what a collection keeps
-    let _count = cards.len();
-    append(all, cards);
+    if cards.len() < MOST_IN_COLLECTION {
+        cards.push(card);
+    }
 }
 
-/// The card at a place.
-pub fn card_at(cards: &Cards, place: usize) -> Card
-    requires { place < length cards.now.items }
-    ensures { value_seen result ≡ slice_index_or (values_seen cards.now.items) place (value_seen result) }
+/// The same, where it passes.
+#[inline(always)]
+pub fn push_if(cards: &mut Cards, card: Card, passes: bool)
+    ensures cards { values_seen cards.new.items
+        ≡ (if passes then cut (values_seen cards.old.items ++ value_seen card ∷ []) else values_seen cards.old.items) }
+    ensures few { length cards.new.items ≤ most_in_collection }
 {
-    cards[place]
+    // what a list keeps
+    let _count = cards.len();
+    if passes {
+        push(cards, card);
+    }
 }
 
 /// The sum of what the cards are worth.
@@ -122,19 +130,4 @@ fn better(scene: &Scene, found: Card, other: Card, map: u16, largest: bool) -> C
     let b = worth_of(scene, found, map);
     let is_better = if largest { a > b } else { a < b };
     if is_better { other } else { found }
-}
-
-/// Writes a card at the end of those kept so far, where it passes, and says how many are kept then.
-pub fn keep(cards: &mut Cards, kept: usize, card: Card, passes: bool) -> usize
-    requires room { kept < length cards.old.items }
-    ensures cards { values_seen cards.new.items
-        ≡ (if passes then slice_set (values_seen cards.old.items) kept
-        (value_seen card) else values_seen cards.old.items) }
-    ensures count { result ≡ (if passes then kept + 1 else kept) }
-{
-    if passes {
-        cards[kept] = card;
-        return kept + 1;
-    }
-    kept
 }

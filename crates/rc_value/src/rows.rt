@@ -85,6 +85,7 @@ fn card_in(shape: &Shape, loc: u16, id: Option<u16>) -> Option<Card>
 
 /// The card at the top of a location, if one is there.
 #[tactic(auto, unfolding(crate::specs::Scene::scene_seen))]
+#[inline(always)]
 pub fn top_card(scene: &Scene, scope: &Bindings, loc: &Loc) -> Option<Card>
     ensures { option_map value_seen result
         ≡ last_of (cut (cards_there (scene_seen scene.now)

@@ -11,28 +11,16 @@ ghost use Rattle.rc_value.specs.Depth.{int_depth};
 ghost use Rattle.rc_value.specs.Scene.{scene_seen};
 
 use crate::{
-    Bind, Bindings, Current, Scene, current_of, each_has, expressions_bind_few, int_of,
-    number_at_hand, test_of,
+    Bind, Bindings, Current, Scene, each_has, expressions_bind_few, int_of, number_at_hand, test_of,
 };
 use rc_ast::{IntExpr, Test};
 use rc_code::{CompiledTest, FlatTest};
 use rc_rules::{About, Control, Scores};
 use rc_table::Table;
 
-/// Whether the end test of a stage holds.
-pub fn has_ended(about: &About, table: &Table, control: &Control, end: &Test) -> bool
-    requires laid { table.now.shape ≡ about.now.shape }
-    requires well { (around : Around) × (around.binders ≡ 0) × IsTest about.now.sheet around (test_seen end.now) }
-    ensures { result ≡ test_value (scene_at about.now table.now.table (frames_seen control.now.frames.items)) []
-        (test_seen end.now) }
-{
-    let current = current_of(about.sheet(), about.lookup(), control.frames.as_slice());
-    has_ended_asked(about, current, table, control, end)
-}
-
-/// The same where it is known who is current. A test of how many cards each player has takes no variable.
+/// Whether the compiled end test of a stage holds. A test of how many cards each player has takes no variable.
 #[inline(always)]
-pub fn has_ended_by(
+pub fn code_has_ended(
     about: &About,
     current: Current,
     table: &Table,
@@ -54,13 +42,13 @@ pub fn has_ended_by(
     );
     match end.flat() {
         Some(FlatTest::EachHas { name, count, .. }) => each_has(&scene, *name, *count),
-        _ => has_ended_asked(about, current, table, control, end.test()),
+        _ => has_ended(about, current, table, control, end.test()),
     }
 }
 
-// The same, whatever it takes.
+/// Whether the end test of a stage holds.
 #[inline(never)]
-fn has_ended_asked(
+pub fn has_ended(
     about: &About,
     current: Current,
     table: &Table,

@@ -1,14 +1,15 @@
 //! What is sought in cards: a value for an attribute, or the face of another card.
-ghost use Rattle.std.specs.Prelude.{◌≡◌, ◌<◌, ◌≤◌, ◌++◌, ◌∷◌, [], length, filter, option_map, if◌then◌else◌};
+ghost use Rattle.std.specs.Prelude.{◌≡◌, ◌≤◌, ◌++◌, length, filter, option_map};
 ghost use Rattle.std.specs.List.{list_any, list_all};
 ghost use Rattle.rc_base.specs.Limits.{most_in_collection, most_in_list};
+ghost use Rattle.rc_play_spec.specs.Value.{cut};
 ghost use Rattle.rc_value.specs.Cards.{value_seen, values_seen};
 ghost use Rattle.rc_value.specs.Scene.{scene_seen};
 ghost use Rattle.rc_value.specs.Sought.{face_value, reversed, sought_value};
 
 use crate::collection::Collection;
 use crate::leaves::are_same;
-use crate::loops::{card_at, keep};
+use crate::loops::push_if;
 use crate::scene::Scene;
 use crate::wanted::{
     WantedValue, all_as_wanted, count_if, count_met_in, is_as_wanted, some_as_wanted,
@@ -138,39 +139,16 @@ fn count_one_by_one(scene: &Scene, sought: Sought, cards: &Collection) -> usize
     count
 }
 
-/// Keeps the cards that are so.
-pub(crate) fn keep_as_sought(scene: &Scene, sought: Sought, cards: &mut Cards)
-    ensures { values_seen cards.new.items
-        ≡ filter (sought_value (scene_seen scene.now) sought) (values_seen cards.old.items) }
+/// Puts the cards that are so behind others, as long as there is room.
+pub(crate) fn add_as_sought(scene: &Scene, sought: Sought, cards: &Collection, out: &mut Cards)
+    ensures cards { values_seen out.new.items
+        ≡ cut (values_seen out.old.items ++ filter (sought_value (scene_seen scene.now) sought) cards.now) }
+    ensures few { length out.new.items ≤ most_in_collection }
 {
-    let mut kept = 0;
-    for place in 0..cards.len() {
-        let card = card_at(&*cards, place);
-        let passes = is_as_sought(scene, sought, card);
-        kept = keep(cards, kept, card, passes);
-    }
-    cards.truncate(kept);
-}
-
-/// Writes the cards of a collection that are so into an empty list.
-pub(crate) fn fill_as_sought(scene: &Scene, sought: Sought, cards: &Collection, out: &mut Cards)
-    requires empty { out.old.items ≡ [] }
-    ensures { values_seen out.new.items ≡ filter (sought_value (scene_seen scene.now) sought) cards.now }
-{
+    // what a list keeps
+    let _count = out.len();
     for place in 0..cards.len() {
         let card = cards.at(place);
         push_if(out, card, is_as_sought(scene, sought, card));
-    }
-}
-
-// Puts a card behind others, where it passes.
-#[inline(always)]
-fn push_if(out: &mut Cards, card: Card, passes: bool)
-    requires room { length out.old.items < most_in_collection }
-    ensures { values_seen out.new.items
-        ≡ (if passes then values_seen out.old.items ++ value_seen card ∷ [] else values_seen out.old.items) }
-{
-    if passes {
-        out.push(card);
     }
 }

@@ -15,14 +15,12 @@ use crate::expressions::{card_of, coll_of, int_of, value_of};
 use crate::hand::test_at_hand;
 use crate::leaves::{are_same, cards_of};
 use crate::lookup::who_of;
+use crate::once::sought_once;
 use crate::players::{all_at_once, any_at_once};
 use crate::scene::Scene;
 use crate::scope::{Bind, Bindings};
 use crate::sought::{Likeness, Sought, all_as_sought, opposite, some_as_sought};
-use crate::wanted::{
-    WantedValue, all_as_wanted, is_against, is_variable, opposite_of, some_as_wanted,
-    wanted_at_hand,
-};
+use crate::wanted::{WantedValue, is_against, is_variable, opposite_of};
 use crate::{Card, Cards};
 use rc_ast::{CardExpr, CollExpr, Domain, Test};
 
@@ -235,20 +233,28 @@ fn value_once(
 // What a test asks of the innermost variable's card: its value or its face, or an opposite of these. All else that the
 // test reads is read once for all cards.
 #[cycle(values)]
-pub(crate) fn sought_of(
-    scene: &Scene,
-    scope: &Bindings,
-    inside: &Bindings,
-    test: &Test,
-) -> Option<Sought>
+pub(crate) fn sought_of(scene: &Scene, scope: &Bindings, test: &Test) -> Option<Sought>
+    requires fits { length scope.now + (1 + test_depth (test_seen test.now)) ≤ 5 }
+    ensures { IfSome result (IsSought (scene_seen scene.now) scope.now (test_seen test.now)) }
+{
+    match sought_once(&*scene, &*scope, test) {
+        Some(sought) => Some(sought),
+        None => sought_asked(scene, scope, &scope.with(Bind::Player(0)), test),
+    }
+}
+
+// The same, whatever it takes.
+#[cycle(values)]
+#[inline(never)]
+fn sought_asked(scene: &Scene, scope: &Bindings, inside: &Bindings, test: &Test) -> Option<Sought>
     requires inside { inside.now ≡ scope.now ++ player_bound 0 ∷ [] }
     requires fits { length scope.now + (1 + test_depth (test_seen test.now)) ≤ 5 }
     ensures { IfSome result (IsSought (scene_seen scene.now) scope.now (test_seen test.now)) }
 {
     match test {
         Test::EqCard(_, _) => face_against(scene, scope, inside, test),
-        Test::Ne(inner) => opposite(sought_of(scene, scope, inside, inner)),
-        Test::Not(inner) => opposite(sought_of(scene, scope, inside, inner)),
+        Test::Ne(inner) => opposite(sought_asked(scene, scope, inside, inner)),
+        Test::Not(inner) => opposite(sought_asked(scene, scope, inside, inner)),
         _ => match wanted_of(scene, scope, inside, test) {
             Some(wanted) => Some(Sought::Value(wanted)),
             None => None,
@@ -421,44 +427,24 @@ fn all_cards(scene: &Scene, scope: &Bindings, cards: &Collection, test: &Test) -
     ensures { result ≡ list_all (λ m. test_value (scene_seen scene.now) (scope.now ++ m ∷ []) (test_seen test.now))
         (map (λ c. card_bound c) cards.now) }
 {
-    match wanted_at_hand(&*scene, &*scope, test) {
-        Some(wanted) => all_as_wanted(scene, wanted, cards),
-        None => all_cards_wanted(scene, scope, cards, test),
-    }
-}
-
-// The same, where it isn't at hand which value the cards are to have.
-#[cycle(values)]
-#[inline(never)]
-fn all_cards_wanted(scene: &Scene, scope: &Bindings, cards: &Collection, test: &Test) -> bool
-    requires fits { length scope.now + (1 + test_depth (test_seen test.now)) ≤ 5 }
-    ensures { result ≡ list_all (λ m. test_value (scene_seen scene.now) (scope.now ++ m ∷ []) (test_seen test.now))
-        (map (λ c. card_bound c) cards.now) }
-{
-    let mut inside = scope.with(Bind::Player(0));
-    match sought_of(scene, scope, &inside, test) {
+    match sought_of(scene, scope, test) {
         Some(sought) => all_as_sought(scene, sought, cards),
-        None => all_cards_asked(scene, scope, &mut inside, cards, test),
+        None => all_cards_asked(scene, scope, cards, test),
     }
 }
 
 // The same, each card asked by itself.
 #[cycle(values)]
-fn all_cards_asked(
-    scene: &Scene,
-    scope: &Bindings,
-    inside: &mut Bindings,
-    cards: &Collection,
-    test: &Test,
-) -> bool
-    requires inside { inside.old ≡ scope.now ++ player_bound 0 ∷ [] }
+#[inline(never)]
+fn all_cards_asked(scene: &Scene, scope: &Bindings, cards: &Collection, test: &Test) -> bool
     requires fits { length scope.now + (1 + test_depth (test_seen test.now)) ≤ 5 }
     ensures { result ≡ list_all (λ m. test_value (scene_seen scene.now) (scope.now ++ m ∷ []) (test_seen test.now))
         (map (λ c. card_bound c) cards.now) }
 {
+    let mut inside = scope.with(Bind::Player(0));
     for place in 0..cards.len() {
         inside.rebind(Bind::Card(cards.at(place)));
-        if !test_of(scene, &*inside, test) {
+        if !test_of(scene, &inside, test) {
             return false;
         }
     }
@@ -471,44 +457,24 @@ fn any_card(scene: &Scene, scope: &Bindings, cards: &Collection, test: &Test) ->
     ensures { result ≡ list_any (λ m. test_value (scene_seen scene.now) (scope.now ++ m ∷ []) (test_seen test.now))
         (map (λ c. card_bound c) cards.now) }
 {
-    match wanted_at_hand(&*scene, &*scope, test) {
-        Some(wanted) => some_as_wanted(scene, wanted, cards),
-        None => any_card_wanted(scene, scope, cards, test),
-    }
-}
-
-// The same, where it isn't at hand which value the cards are to have.
-#[cycle(values)]
-#[inline(never)]
-fn any_card_wanted(scene: &Scene, scope: &Bindings, cards: &Collection, test: &Test) -> bool
-    requires fits { length scope.now + (1 + test_depth (test_seen test.now)) ≤ 5 }
-    ensures { result ≡ list_any (λ m. test_value (scene_seen scene.now) (scope.now ++ m ∷ []) (test_seen test.now))
-        (map (λ c. card_bound c) cards.now) }
-{
-    let mut inside = scope.with(Bind::Player(0));
-    match sought_of(scene, scope, &inside, test) {
+    match sought_of(scene, scope, test) {
         Some(sought) => some_as_sought(scene, sought, cards),
-        None => any_card_asked(scene, scope, &mut inside, cards, test),
+        None => any_card_asked(scene, scope, cards, test),
     }
 }
 
 // The same, each card asked by itself.
 #[cycle(values)]
-fn any_card_asked(
-    scene: &Scene,
-    scope: &Bindings,
-    inside: &mut Bindings,
-    cards: &Collection,
-    test: &Test,
-) -> bool
-    requires inside { inside.old ≡ scope.now ++ player_bound 0 ∷ [] }
+#[inline(never)]
+fn any_card_asked(scene: &Scene, scope: &Bindings, cards: &Collection, test: &Test) -> bool
     requires fits { length scope.now + (1 + test_depth (test_seen test.now)) ≤ 5 }
     ensures { result ≡ list_any (λ m. test_value (scene_seen scene.now) (scope.now ++ m ∷ []) (test_seen test.now))
         (map (λ c. card_bound c) cards.now) }
 {
+    let mut inside = scope.with(Bind::Player(0));
     for place in 0..cards.len() {
         inside.rebind(Bind::Card(cards.at(place)));
-        if test_of(scene, &*inside, test) {
+        if test_of(scene, &inside, test) {
             return true;
         }
     }

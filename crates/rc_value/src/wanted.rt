@@ -1,22 +1,22 @@
 //! Values that cards are to have.
-ghost use Rattle.std.specs.Prelude.{◌≡◌, ◌+◌, ◌<◌, ◌≤◌, ◌++◌, ◌∷◌, [], true, false, length, filter, option_map, slice_index_or, None, IfSome, if◌then◌else◌};
+ghost use Rattle.std.specs.Prelude.{◌≡◌, ◌+◌, ◌<◌, ◌≤◌, true, false, length, filter, option_map, slice_index_or, None, IfSome, if◌then◌else◌};
 ghost use Rattle.std.specs.List.{list_any, list_all};
 ghost use Rattle.rc_base.specs.Limits.{most_in_collection, most_in_list};
 ghost use Rattle.rc_sheet_spec.specs.Sheet.{card_var};
 ghost use Rattle.rc_ast.specs.Names.{who_seen};
 ghost use Rattle.rc_ast.specs.Expressions.{card_seen, coll_seen, test_seen};
 ghost use Rattle.rc_flow.specs.Reads.{reads_card};
-ghost use Rattle.rc_value.specs.Cards.{value_seen, values_seen};
+ghost use Rattle.rc_value.specs.Cards.{value_seen};
 ghost use Rattle.rc_value.specs.Scene.{scene_seen};
-ghost use Rattle.rc_value.specs.Wanted.{compares, meets, wanted_value, turned, IsFixed, IsFixedCollection, IsFixedOwner, IsWanted, IsWantedAt};
+ghost use Rattle.rc_value.specs.Wanted.{compares, meets, wanted_value, turned};
+ghost use Rattle.rc_value.specs.Wanted.{IsFixed, IsFixedCollection, IsFixedOwner, IsWantedAt};
 
+use crate::Card;
 use crate::collection::Collection;
 use crate::hand::value_at_hand;
 use crate::leaves::{attr_of, value_in};
-use crate::loops::{card_at, keep};
 use crate::scene::Scene;
 use crate::scope::Bindings;
-use crate::{Card, Cards};
 use rc_ast::{CardExpr, CollExpr, Test, Who};
 use rc_flow::card_reads;
 
@@ -242,16 +242,9 @@ fn is_against_fixed(expr: &CardExpr, other: &CardExpr, place: usize) -> bool
     is_variable(expr, place) && is_fixed(other)
 }
 
-/// A test of the innermost variable's card as a value that the card is to have, where that is at hand: a value that the
-/// sheet names, or that of the card at the top of a location that no variable owns.
-#[inline(always)]
-pub(crate) fn wanted_at_hand(scene: &Scene, scope: &Bindings, test: &Test) -> Option<WantedValue>
-    ensures { IfSome result (IsWanted (scene_seen scene.now) scope.now (test_seen test.now)) }
-{
-    wanted_at(scene, scope, scope.len(), test)
-}
-
-/// The same of the variable at a place, in any scope that ends before it.
+/// A test of the card of the variable at a place as a value that the card is to have, in any scope that ends before it,
+/// where that is at hand: a value that the sheet names, or that of the card at the top of a location that no variable
+/// owns.
 #[inline(always)]
 pub fn wanted_at(scene: &Scene, scope: &Bindings, place: usize, test: &Test) -> Option<WantedValue>
     ensures { IfSome result (IsWantedAt (scene_seen scene.now) place (test_seen test.now)) }

@@ -1,6 +1,6 @@
 use Rattle.std.proofs.Common.{◌≡◌, length, ◌++◌, ◌∷◌, [], map, rules, arith, refl, ap, ap₂, sym, ◌∙◌}
 use Rattle.std.proofs.lemmas.Grind.{common_steps}
-use Rattle.std.proofs.lemmas.List.{length-map, take-map}
+use Rattle.std.proofs.lemmas.List.{drop_all, length-map, take_all}
 use Rattle.std.specs.List.{filter, list_all, list_any}
 use Rattle.rc_base.specs.Numbers.{below}
 use Rattle.rc_deck.proofs.RangeLemmas.{below_length}
@@ -10,10 +10,15 @@ use Rattle.rc_ast.specs.Expressions.{test_seen, card_seen, coll_seen, colls_seen
 use Rattle.rc_value.specs.Cards.{value_seen, values_seen}
 use Rattle.rc_value.specs.Scene.{scene_seen}
 use Rattle.rc_sheet_spec.specs.Sheet.{all_of, any_of, each_card, card_var, cards_in, filtered, group_var}
-use Rattle.rc_value.proofs.Passing.{pass_step, pass_end}
-use Rattle.rc_value.proofs.Steps.{players_are, all_stop, all_on, all_end, any_stop, any_on, any_end, player_here, union_on, union_end, colls_here, tests_here, and_here, or_here, union_here, and_depth, or_depth, union_depth, inner_is, tests_on, tests_off, count_on, count_end}
+use Rattle.rc_play_spec.proofs.Bounds.{coll_within}
+use Rattle.rc_ast.proofs.ViewLemmas.{colls_seen-drop}
+use Rattle.rc_value.proofs.Steps.{players_are, all_stop, all_on, all_end, any_stop, any_on, any_end, player_here}
+use Rattle.rc_value.proofs.Steps.{cut_behind, more_on, more_end, passing_on, passing_here, colls_here, tests_here}
+use Rattle.rc_value.proofs.Steps.{and_here, or_here, union_here, and_depth, or_depth, union_depth, inner_is, tests_on}
+use Rattle.rc_value.proofs.Steps.{tests_off, count_on, count_end}
 use Rattle.rc_ast.specs.declared.expressions.CardExpr.TheFolds
-use Rattle.rc_value.proofs.WantedLemmas.{all_wanted, any_wanted, all_told, any_told, kept_told, face_is, face_turned, against_is, against_turned, value_is}
+use Rattle.rc_value.proofs.WantedLemmas.{all_told, any_told, kept_told, face_is, face_turned, against_is}
+use Rattle.rc_value.proofs.WantedLemmas.{against_turned, value_is}
 use Rattle.rc_flow.specs.Reads.{reads_card}
 use Rattle.rc_value.specs.Sought.{has_face, sought_value}
 use Rattle.rc_value.proofs.+values.Goals as goal
@@ -25,10 +30,6 @@ tests::test_of-returns-in-And t c =
 pub tests::test_of-returns-in-Or : goal.tests::test_of-returns-in-Or
 tests::test_of-returns-in-Or t c =
     let e = or_here c.args.expr.now c.in-Or.tests c.in-Or.is in grind (arith, common_steps, e)
-
-pub expressions::coll_of-returns-in-Union : goal.expressions::coll_of-returns-in-Union
-expressions::coll_of-returns-in-Union t c =
-    let e = union_here c.args.expr.now c.in-Union.parts c.in-Union.is in grind (arith, common_steps, e)
 
 pub tests::all_tests-loop-test-preserved : goal.tests::all_tests-loop-test-preserved
 tests::all_tests-loop-test-preserved t c =
@@ -50,24 +51,42 @@ tests::any_test-loop-test-preserved t c =
           c.loop-test-test.true c.test-item.is c.test_of.ensures c.if-test_of.false c.loop-test.invariant.told;
     }
 
-pub expressions::join-loop-part-preserved : goal.expressions::join-loop-part-preserved
-expressions::join-loop-part-preserved t c =
+pub expressions::coll_of-returns : goal.expressions::coll_of-returns
+expressions::coll_of-returns t c =
+    let all = coll_value (scene_seen c.args.scene.now) c.args.scope.now (coll_seen c.args.expr.now) in
+    c.add.ensures.cards ∙ ap (λ xs. cut (values_seen xs ++ all)) c.requires.empty
+    ∙ take_all 512 all (coll_within (scene_seen c.args.scene.now) c.args.scope.now (coll_seen c.args.expr.now))
+
+pub expressions::add-returns-in-Union-clause-cards : goal.expressions::add-returns-in-Union-clause-cards
+expressions::add-returns-in-Union-clause-cards t c =
+    let parts = colls_value (scene_seen c.args.scene.now) c.args.scope.now (colls_seen c.in-Union.parts.items) in
+    c.add_parts.ensures.cards ∙ sym (cut_behind 512 512 (values_seen c.args.out.now.items) parts (omega arith))
+    ∙ ap (λ e. cut (values_seen c.args.out.now.items ++ coll_value (scene_seen c.args.scene.now) c.args.scope.now e))
+    (sym (union_here c.args.expr.now c.in-Union.parts c.in-Union.is))
+
+pub expressions::add_parts-loop-part-preserved : goal.expressions::add_parts-loop-part-preserved
+expressions::add_parts-loop-part-preserved t c =
     let e = colls_here c.deref-part-items.result.now c.loop-part.part-index c.part-item.result c.loop-part-test.true c.part-item.is in
     record {
       few = c.add.ensures.few;
       fits = omega arith;
       told =
-          union_on (scene_seen c.args.scene.now) c.args.scope.now (values_seen c.loop-part.out.items) (values_seen c.add.new.out.items)
-          c.deref-part-items.result.now c.loop-part.part-index c.part-item.result c.loop-part-test.true c.part-item.is
+          more_on (values_seen c.loop-part.out.items) (values_seen c.add.new.out.items) _ _ _ _
+          (ap (colls_value (scene_seen c.args.scene.now) c.args.scope.now)
+          (colls_seen-drop c.deref-part-items.result.now c.loop-part.part-index c.part-item.result c.loop-part-test.true
+          c.part-item.is))
           c.add.ensures.cards c.loop-part.invariant.told;
     }
 
-pub expressions::join-returns : goal.expressions::join-returns
-expressions::join-returns t c =
+pub expressions::add_parts-returns-clause-cards : goal.expressions::add_parts-returns-clause-cards
+expressions::add_parts-returns-clause-cards t c =
     let n = length-map c.loop-part.out.items value_seen in
-    union_end (scene_seen c.args.scene.now) c.args.scope.now (values_seen c.loop-part.out.items)
-    c.deref-part-items.result.now c.loop-part.part-index c.loop-part-test.false (omega arith) c.loop-part.invariant.told
-    ∙ ap (λ xs. cut (colls_value (scene_seen c.args.scene.now) c.args.scope.now (colls_seen xs))) c.deref-part-items.ensures.value
+    more_end (values_seen c.loop-part.out.items) _ _ (omega arith)
+    (ap (λ xs. colls_value (scene_seen c.args.scene.now) c.args.scope.now (colls_seen xs))
+    (drop_all c.loop-part.part-index c.deref-part-items.result.now c.loop-part-test.false))
+    c.loop-part.invariant.told
+    ∙ ap (λ xs. cut (values_seen c.args.out.now.items ++ colls_value (scene_seen c.args.scene.now) c.args.scope.now
+    (colls_seen xs))) c.deref-part-items.ensures.value
 
 pub tests::all_cards_asked-loop-place-preserved : goal.tests::all_cards_asked-loop-place-preserved
 tests::all_cards_asked-loop-place-preserved t c =
@@ -171,57 +190,54 @@ pub tests::test_of-any_test-requires : goal.tests::test_of-any_test-requires
 tests::test_of-any_test-requires t c =
     let e = or_depth c.args.expr.now c.in-Or.tests c.in-Or.is in (search (rules, TheFolds.the_lemmas), omega arith)
 
-pub expressions::coll_of-join-requires : goal.expressions::coll_of-join-requires
-expressions::coll_of-join-requires t c =
-    let e = union_depth c.args.expr.now c.in-Union.parts c.in-Union.is in
-    (search (rules, TheFolds.the_lemmas), (c.requires.empty, omega arith))
+pub expressions::add-add_parts-requires : goal.expressions::add-add_parts-requires
+expressions::add-add_parts-requires t c =
+    let e = union_depth c.args.expr.now c.in-Union.parts c.in-Union.is in (search (rules, TheFolds.the_lemmas), omega arith)
 
-pub expressions::pass_asked-loop-place-preserved : goal.expressions::pass_asked-loop-place-preserved
-expressions::pass_asked-loop-place-preserved t c =
+pub expressions::add_asked-loop-place-preserved : goal.expressions::add_asked-loop-place-preserved
+expressions::add_asked-loop-place-preserved t c =
     let n = length-map c.loop-place.out.items value_seen in
-    let m = length-map c.args.out.now.items value_seen in
-    let h = c.loop-place.invariant.told in
-    let k = h.same in
+    let bound = c.rebind.ensures c.args.scope.now c.loop-place.invariant.inside.0 c.loop-place.invariant.inside.1 in
     record {
+      few = c.push_if.ensures.few;
       told =
-          pass_step (λ x. test_value (scene_seen c.args.scene.now) (c.args.scope.now ++ card_bound x ∷ []) (test_seen c.args.test.now)) (values_seen c.args.out.now.items) _ (values_seen c.loop-place.out.items) (values_seen c.keep-kept.new.cards.items)
-          c.loop-place.kept c.keep-kept.result c.loop-place.place (value_seen c.card_at-card.result) c.test_of-passes.result h
-          (omega (arith, c.len-place-end.ensures.value)) c.card_at-card.ensures
-          (inner_is (scene_seen c.args.scene.now) c.args.scope.now c.rebind.new.self (card_bound (value_seen c.card_at-card.result)) c.args.test.now c.test_of-passes.result (c.rebind.ensures c.args.scope.now c.loop-place.invariant.inside.0 c.loop-place.invariant.inside.1) c.test_of-passes.ensures)
-          c.keep-kept.ensures.cards c.keep-kept.ensures.count;
-      inside = (card_bound (value_seen c.card_at-card.result), (c.rebind.ensures c.args.scope.now c.loop-place.invariant.inside.0 c.loop-place.invariant.inside.1));
+          passing_on (values_seen c.loop-place.out.items) (values_seen c.push_if.new.cards.items) _ _ _
+          (value_seen c.at-card.result) c.test_of-passes.result
+          (passing_here (λ x. test_value (scene_seen c.args.scene.now) (c.args.scope.now ++ card_bound x ∷ [])
+          (test_seen c.args.test.now)) c.args.all.now c.loop-place.place (value_seen c.at-card.result)
+          c.test_of-passes.result
+          (omega (arith, c.len-place-end.ensures.count)) c.at-card.ensures
+          (inner_is (scene_seen c.args.scene.now) c.args.scope.now c.rebind.new.self
+          (card_bound (value_seen c.at-card.result)) c.args.test.now c.test_of-passes.result bound
+          c.test_of-passes.ensures))
+          c.push_if.ensures.cards c.loop-place.invariant.told;
+      inside = (card_bound (value_seen c.at-card.result), bound);
     }
 
-pub expressions::pass_asked-returns : goal.expressions::pass_asked-returns
-expressions::pass_asked-returns t c =
-    let m = length-map c.args.out.now.items value_seen in
-    ap values_seen c.truncate.ensures.items ∙ sym (take-map value_seen c.loop-place.kept c.loop-place.out.items)
-    ∙ pass_end (λ x. test_value (scene_seen c.args.scene.now) (c.args.scope.now ++ card_bound x ∷ []) (test_seen c.args.test.now)) (values_seen c.args.out.now.items) _ (values_seen c.loop-place.out.items) c.loop-place.kept c.loop-place.place c.loop-place.invariant.told
-    (omega (arith, c.len-place-end.ensures.value))
+pub expressions::add_asked-returns-clause-cards : goal.expressions::add_asked-returns-clause-cards
+expressions::add_asked-returns-clause-cards t c =
+    let n = length-map c.loop-place.out.items value_seen in
+    more_end (values_seen c.loop-place.out.items) _ _ (omega arith)
+    (ap (filter (λ x. test_value (scene_seen c.args.scene.now) (c.args.scope.now ++ card_bound x ∷ [])
+    (test_seen c.args.test.now)))
+    (drop_all c.loop-place.place c.args.all.now (omega (arith, c.len-place-end.ensures.count))))
+    c.loop-place.invariant.told
 
 pub tests::all_cards-returns-in-Some : goal.tests::all_cards-returns-in-Some
 tests::all_cards-returns-in-Some t c =
-    c.all_as_wanted.ensures ∙ all_wanted (scene_seen c.args.scene.now) c.args.scope.now (test_seen c.args.test.now) c.in-Some.wanted c.args.cards.now c.in-Some.ensures
-
-pub tests::all_cards_wanted-returns-in-Some : goal.tests::all_cards_wanted-returns-in-Some
-tests::all_cards_wanted-returns-in-Some t c =
     c.all_as_sought.ensures ∙ all_told (scene_seen c.args.scene.now) c.args.scope.now (test_seen c.args.test.now) (sought_value (scene_seen c.args.scene.now) c.in-Some.sought) c.args.cards.now c.in-Some.ensures
-
-pub tests::any_card_wanted-returns-in-Some : goal.tests::any_card_wanted-returns-in-Some
-tests::any_card_wanted-returns-in-Some t c =
-    c.some_as_sought.ensures ∙ any_told (scene_seen c.args.scene.now) c.args.scope.now (test_seen c.args.test.now) (sought_value (scene_seen c.args.scene.now) c.in-Some.sought) c.args.cards.now c.in-Some.ensures
 
 pub tests::any_card-returns-in-Some : goal.tests::any_card-returns-in-Some
 tests::any_card-returns-in-Some t c =
-    c.some_as_wanted.ensures ∙ any_wanted (scene_seen c.args.scene.now) c.args.scope.now (test_seen c.args.test.now) c.in-Some.wanted c.args.cards.now c.in-Some.ensures
+    c.some_as_sought.ensures ∙ any_told (scene_seen c.args.scene.now) c.args.scope.now (test_seen c.args.test.now) (sought_value (scene_seen c.args.scene.now) c.in-Some.sought) c.args.cards.now c.in-Some.ensures
 
-pub expressions::pass-returns-in-Some : goal.expressions::pass-returns-in-Some
-expressions::pass-returns-in-Some t c =
-    c.keep_as_sought.ensures ∙ kept_told (scene_seen c.args.scene.now) c.args.scope.now (test_seen c.args.test.now) (sought_value (scene_seen c.args.scene.now) c.in-Some.sought) (values_seen c.args.out.now.items) c.in-Some.ensures
-
-pub expressions::pass_from-returns-in-Some : goal.expressions::pass_from-returns-in-Some
-expressions::pass_from-returns-in-Some t c =
-    c.fill_as_sought.ensures ∙ kept_told (scene_seen c.args.scene.now) c.args.scope.now (test_seen c.args.test.now) (sought_value (scene_seen c.args.scene.now) c.in-Some.sought) c.args.all.now c.in-Some.ensures
+pub expressions::add_passing-returns-in-Some-clause-cards : goal.expressions::add_passing-returns-in-Some-clause-cards
+expressions::add_passing-returns-in-Some-clause-cards t c =
+    c.add_as_sought.ensures.cards
+    ∙ ap (λ xs. cut (values_seen c.args.out.now.items ++ xs)) (
+    kept_told (scene_seen c.args.scene.now) c.args.scope.now (test_seen c.args.test.now)
+    (sought_value (scene_seen c.args.scene.now) c.in-Some.sought) c.args.all.now c.in-Some.ensures
+    )
 
 pub tests::wanted_against-returns-then-is_against : goal.tests::wanted_against-returns-then-is_against
 tests::wanted_against-returns-then-is_against t c =

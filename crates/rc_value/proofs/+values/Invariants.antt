@@ -7,22 +7,24 @@ use Rattle.rc_ast.specs.Expressions.{colls_seen, test_seen, tests_seen}
 use Rattle.rc_value.specs.Cards.{values_seen}
 use Rattle.rc_value.specs.Depth.{colls_depth, tests_depth}
 use Rattle.rc_value.specs.Scene.{scene_seen}
-use Rattle.rc_value.proofs.Passing.{Passed}
 use Rattle.rc_value.proofs.+values.Given as goal
 
-abbrev pub invariant-expressions::pass_asked-loop-place : goal.invariant-expressions::pass_asked-loop-place
-invariant-expressions::pass_asked-loop-place l = record {
-  told : Passed (λ c. test_value (scene_seen l.scene) (l.scope ++ card_bound c ∷ []) (test_seen l.test)) (values_seen l.fn.out.items)
-      (filter (λ c. test_value (scene_seen l.scene) (l.scope ++ card_bound c ∷ []) (test_seen l.test)) (values_seen l.fn.out.items)) (values_seen l.out.items) l.kept l.place;
+abbrev pub invariant-expressions::add_asked-loop-place : goal.invariant-expressions::add_asked-loop-place
+invariant-expressions::add_asked-loop-place l = record {
+  few : length l.out.items ≤ 512;
+  told : cut (values_seen l.out.items ++ filter
+      (λ c. test_value (scene_seen l.scene) (l.scope ++ card_bound c ∷ []) (test_seen l.test)) (drop l.place l.all))
+      ≡ cut (values_seen l.fn.out.items ++ filter
+      (λ c. test_value (scene_seen l.scene) (l.scope ++ card_bound c ∷ []) (test_seen l.test)) l.all);
   inside : (m : PureBind CardValue) × (l.inside ≡ l.scope ++ m ∷ []);
 }
 
-abbrev pub invariant-expressions::join-loop-part : goal.invariant-expressions::join-loop-part
-invariant-expressions::join-loop-part l = record {
+abbrev pub invariant-expressions::add_parts-loop-part : goal.invariant-expressions::add_parts-loop-part
+invariant-expressions::add_parts-loop-part l = record {
   few : length l.out.items ≤ 512;
   fits : length l.scope + colls_depth (colls_seen (drop l.part-index l.part-items)) ≤ 5;
   told : cut (values_seen l.out.items ++ colls_value (scene_seen l.scene) l.scope (colls_seen (drop l.part-index l.part-items)))
-      ≡ cut (colls_value (scene_seen l.scene) l.scope (colls_seen l.part-items));
+      ≡ cut (values_seen l.fn.out.items ++ colls_value (scene_seen l.scene) l.scope (colls_seen l.part-items));
 }
 
 abbrev pub invariant-tests::all_tests-loop-test : goal.invariant-tests::all_tests-loop-test

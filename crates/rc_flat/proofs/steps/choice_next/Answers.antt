@@ -21,7 +21,7 @@ pub returns-then-is_empty-clause-leads : goal.returns-then-is_empty-clause-leads
 returns-then-is_empty-clause-leads c =
     let about = c.args.about.now in
     let m = flat_of about (list_seen c.args.code.now) c.args.state.now in
-    let filled = c.fill_offers_by.ensures ∙ ap (λ (laid : Laid). menu_at about c.args.site laid.table m.control) c.table.ensures in
+    let filled = c.fill_offers_at.ensures ∙ ap (λ (laid : Laid). menu_at about c.args.site laid.table m.control) c.table.ensures in
     let alts = c.args.alts.now in
     let here = c.requires.here in
     let choice = c.requires.implements.choices m.place.next c.args.site alts here.0 c.args.inside here.1 in
@@ -30,14 +30,14 @@ returns-then-is_empty-clause-leads c =
     skip_leads m dealing k c.args.site alts here.0 c.args.inside c.requires.round here.1 c.behind.result
     (c.behind.ensures ∙ ap (λ n. drop (n + 1 + c.args.inside) m.code) c.next-next.ensures)
     (ap (λ xs. length (menu_from (scene_at about m.table m.control.frames) xs)) choice.same
-    ∙ ap length (sym filled) ∙ length-map c.fill_offers_by.new.menu.items item_seen ∙ none)
+    ∙ ap length (sym filled) ∙ length-map c.fill_offers_at.new.menu.items item_seen ∙ none)
     ∙ ap (λ path. goes k (config_of (moved m path m.table m.control))) (sym c.go_to.ensures)
 
 pub returns-then-is_empty-clause-ready : goal.returns-then-is_empty-clause-ready
 returns-then-is_empty-clause-ready c =
     let about = c.args.about.now in
     let m = flat_of about (list_seen c.args.code.now) c.args.state.now in
-    let filled = c.fill_offers_by.ensures ∙ ap (λ (laid : Laid). menu_at about c.args.site laid.table m.control) c.table.ensures in
+    let filled = c.fill_offers_at.ensures ∙ ap (λ (laid : Laid). menu_at about c.args.site laid.table m.control) c.table.ensures in
     let here = c.requires.here in
     let play = c.requires.ready.play in
     record {
@@ -51,7 +51,7 @@ returns-then-is_empty-clause-ready c =
           let some = offered.some in
           let same = ap (λ site. length (menu_at about site m.table m.control)) (one_site m c.args.site other c.args.alts.now here.0 c.args.inside here.1 offered) in
           let none = ap length filled in
-          let empty = length-map c.fill_offers_by.new.menu.items item_seen in
+          let empty = length-map c.fill_offers_at.new.menu.items item_seen in
           let zero = eqb-true _ _ (sym c.is_empty.ensures ∙ c.if-is_empty.true) in
           absurd (omega (arith, some, same, none, empty, zero));
     }
@@ -59,12 +59,12 @@ returns-then-is_empty-clause-ready c =
 pub decide-requires-clause-here : goal.decide-requires-clause-here
 decide-requires-clause-here c =
     let m = flat_of c.args.about.now (list_seen c.args.code.now) c.args.state.now in
-    let filled = c.fill_offers_by.ensures ∙ ap (λ (laid : Laid). menu_at c.args.about.now c.args.site laid.table m.control) c.table.ensures in
+    let filled = c.fill_offers_at.ensures ∙ ap (λ (laid : Laid). menu_at c.args.about.now c.args.site laid.table m.control) c.table.ensures in
     let alts = c.args.alts.now in
     let here = c.requires.here in
     let choice = c.requires.implements.choices m.place.next c.args.site alts here.0 c.args.inside here.1 in
     let many = ap length filled in
-    let all = length-map c.fill_offers_by.new.menu.items item_seen in
+    let all = length-map c.fill_offers_at.new.menu.items item_seen in
     let not_zero = eqb-false _ _ (sym c.is_empty.ensures ∙ c.if-is_empty.false) in
     record {
       offered = record {
@@ -85,7 +85,7 @@ decide-requires-clause-ready c =
     let about = c.args.about.now in
     let m = flat_of about (list_seen c.args.code.now) c.args.state.now in
     let here = c.requires.here in
-    let filled = c.fill_offers_by.ensures ∙ ap (λ (laid : Laid). menu_at about c.args.site laid.table m.control) c.table.ensures in
+    let filled = c.fill_offers_at.ensures ∙ ap (λ (laid : Laid). menu_at about c.args.site laid.table m.control) c.table.ensures in
     record {
       laid = c.requires.ready.laid;
       play = c.requires.ready.play;

@@ -23,8 +23,8 @@ choice_there-choice-requires c =
       ap (slice_get (list_seen c.args.code.now)) c.next.ensures ∙ offered.there,
     )
 
-pub fill_offers_by-requires-clause-offers : goal.fill_offers_by-requires-clause-offers
-fill_offers_by-requires-clause-offers c =
+pub fill_offers_at-requires-clause-offers : goal.fill_offers_at-requires-clause-offers
+fill_offers_at-requires-clause-offers c =
     let offered = c.requires.on.offered c.in-Some.site c.in-Some.is in
     ap alts_in (sym c.choice_there-choice.ensures.1 ∙ ap (slice_get (list_seen c.args.code.now)) c.next.ensures ∙ offered.there)
 
@@ -38,7 +38,7 @@ returns-clause-ready c =
       kept = λ site is.
           record {
             offered = c.requires.on.offered site is;
-            menu = c.fill_offers_by.ensures
+            menu = c.fill_offers_at.ensures
                 ∙ ap (λ (laid : Laid). menu_at c.args.about.now c.in-Some.site laid.table control) c.table.ensures
                 ∙ ap (λ o. menu_at c.args.about.now (unwrap_or o 0) c.args.state.now.board.laid.table control) (sym c.in-Some.is ∙ is);
           };

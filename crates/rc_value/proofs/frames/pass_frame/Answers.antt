@@ -1,14 +1,12 @@
-use Rattle.std.proofs.Common.{ap, sym, ◌∙◌, ◌++◌, ◌∷◌, [], option_to_list}
-use Rattle.rc_play_spec.specs.Step.{passed}
-use Rattle.rc_rules.specs.Control.{frames_seen, frame_seen}
-use Rattle.rc_value.proofs.FrameEnds.{passed-append, frames_seen-append}
+use Rattle.std.proofs.Common.{◌≡◌, length, sym, subst, arith}
+use Rattle.std.proofs.lemmas.Grind.{common_steps}
+use Rattle.std.specs.List.{refill}
+use Rattle.rc_rules.specs.Control.{frames_seen}
+use Rattle.rc_value.specs.Current.{IsCurrent}
 use Rattle.rc_value.proofs.frames.pass_frame.Goals as goal
 
-pub returns-in-Some : goal.returns-in-Some
-returns-in-Some c =
-    let left = c.pop.new.self.items in
-    let before = ap frames_seen (c.pop.ensures.items ∙ ap (λ o. left ++ option_to_list o) c.in-Some.is) ∙ frames_seen-append left c.in-Some.frame in
-    ap frames_seen c.push.ensures.items ∙ frames_seen-append left c.next_of.result
-    ∙ ap (λ f. frames_seen left ++ f ∷ []) c.next_of.ensures
-    ∙ sym (passed-append c.args.count (frames_seen left) (frame_seen c.in-Some.frame))
-    ∙ sym (ap (passed c.args.count) before)
+pub returns-clause-current : goal.returns-clause-current
+returns-clause-current c =
+    let old = c.args.frames.now.items in
+    let kept : refill (length old) old c.pass_innermost.new.frames ≡ c.pass_innermost.new.frames = grind (arith, common_steps) in
+    subst (λ frames. IsCurrent c.args.about.now.sheet (frames_seen frames) c.pass_innermost.result) (sym kept) c.pass_innermost.ensures.current

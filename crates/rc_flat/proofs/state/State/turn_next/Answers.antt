@@ -22,13 +22,13 @@ returns-clause-leads c =
     let about = c.args.about.now in
     let m = flat_of about (list_seen c.args.code.now) c.args.self.now in
     let here = c.stage_there-stage.ensures.there in
-    let frames = frames_seen c.pass_frame_by-self.new.frames.items in
+    let frames = frames_seen c.pass_frame-self.new.frames.items in
     let there = left.stage_there m.code c.args.place _ _ _ _ here.1 in
     λ dealing k.
     turn_leads m dealing k c.requires.within.0 c.args.place frames c.requires.within.1 c.requires.round c.requires.end
     (ap (λ (s : Stage). passed (owner_count about.sheet s.class) m.control.frames) there
     ∙ ap (λ count. passed count m.control.frames) (sym c.member_count-count.ensures.count)
-    ∙ sym c.pass_frame_by-self.ensures.passed)
+    ∙ sym c.pass_frame-self.ensures.passed)
     ∙ ap (λ path. goes k (config_of (moved m path m.table (with_frames m.control frames)))) (sym c.to_round.ensures)
 
 pub returns-clause-ready : goal.returns-clause-ready
@@ -37,9 +37,9 @@ returns-clause-ready c =
     let play = c.requires.ready.play in
     record {
       laid = c.requires.ready.laid;
-      play = goes_on m play c.to_round.new.self m.table (with_frames m.control (frames_seen c.pass_frame_by-self.new.frames.items)) still 0 0
+      play = goes_on m play c.to_round.new.self m.table (with_frames m.control (frames_seen c.pass_frame-self.new.frames.items)) still 0 0
           (subst (IsPlace m.code) (sym c.to_round.ensures) (round_place m play c.requires.within.0 c.args.place c.requires.within.1)) play.turn play.counts
           (returns-clause-leads c still 0);
-      current = c.pass_frame_by-self.ensures.current;
+      current = c.pass_frame-self.ensures.current;
       kept = λ site is. absurd (not_offered m site (c.requires.ready.kept site is).offered c.requires.end);
     }

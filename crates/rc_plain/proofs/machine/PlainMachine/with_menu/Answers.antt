@@ -25,7 +25,7 @@ path_of-path-requires c =
 pub fill_menu_at-requires-clause-alts : goal.fill_menu_at-requires-clause-alts
 fill_menu_at-requires-clause-alts c =
     let found = c.path_of-path.ensures in
-    c.alts.ensures.alts c.site_of-site.result found.alts found.there
+    c.alts-alts.ensures.alts c.site_of-site.result found.alts found.there
     ∙ sym (c.sites_fix_choices.ensures.alternatives c.args.about.sheet c.site_of-site.result found.alts c.path_of-path.result c.sheet-sheet.ensures.well.numbered.sites found.here found.there)
 
 pub invariant_of-result : goal.invariant_of-result
@@ -44,6 +44,7 @@ invariant_of-result c =
       play = site_plays m site found.stands (subst (λ n. FitsSite about n control) same decides.fits)
           (c.sites_fix_choices.ensures.left about.sheet site found.alts c.path_of-path.result sites found.here found.there)
           (omega (arith, below));
+      current = c.current_in-current.ensures;
       kept = λ other is. subst (KeepsMenu about _) (same_site c.args.control.site site other c.site_of-site.ensures is) (record {
         offered = record {
           there = found.there

@@ -1,4 +1,4 @@
-use Rattle.std.proofs.Common.{Some, slice_index_or, ap, sym, ◌∙◌, ◌<◌, length, subst, refl, arith}
+use Rattle.std.proofs.Common.{Some, slice_index_or, ap, sym, ◌∙◌, ◌<◌, length, subst, refl}
 use Rattle.rc_sheet_spec.specs.Sheet.{choice}
 use Rattle.rc_sheet_spec.specs.WellFormed.{outside}
 use Rattle.rc_ast.specs.Items.{alts_seen}

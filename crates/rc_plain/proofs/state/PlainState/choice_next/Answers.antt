@@ -41,6 +41,7 @@ returns-then-is_empty-clause-ready c =
       play = goes_on m play c.pass.new.self m.table m.control still 0 0
           (subst (IsPath about.sheet) (sym c.pass.ensures) (past_is_path m play)) play.turn play.counts
           (returns-then-is_empty-clause-leads c still 0);
+      current = c.requires.ready.current;
       kept = λ other is.
           let offered = (c.requires.ready.kept other is).offered in
           let some = offered.some in
@@ -58,6 +59,7 @@ decide-requires-clause-ready c =
     record {
       laid = c.requires.ready.laid;
       play = c.requires.ready.play;
+      current = c.requires.ready.current;
       kept = λ other is.
           let offered = (c.requires.ready.kept other is).offered in
           record {

@@ -1,8 +1,6 @@
-use Rattle.std.proofs.Common.{ap, ◌∙◌, ◌<◌, ◌≤◌, subst}
-use Rattle.rc_play_spec.specs.Owners.{mover}
+use Rattle.std.proofs.Common.{ap, ◌<◌, ◌≤◌, subst}
 use Rattle.rc_play_spec.specs.Menu.{alts_at}
 use Rattle.rc_play_spec.specs.Path.{stage_in}
-use Rattle.rc_rules.specs.Control.{frames_seen}
 use Rattle.rc_plain.specs.State.{plain_of}
 use Rattle.rc_plain.proofs.PathLemmas.{not_round}
 use Rattle.rc_plain.proofs.StepCases.{full_leads, decide_leads}
@@ -23,8 +21,7 @@ returns-clause-leads c =
     let m = plain_of about c.args.self.now in
     let offered = c.requires.here.offered in
     λ dealing k.
-    decide_leads m dealing k c.args.site c.current_of-current.result.player (alts_at about.sheet c.args.site)
+    decide_leads m dealing k c.args.site c.args.self.now.current.player (alts_at about.sheet c.args.site)
     (not_round about.sheet m.path c.requires.ready.play.stands (ap stage_in offered.there))
     offered.there offered.some (subst (λ n. m.control.turn < n) c.turns.ensures c.if-self-turns.false)
-    (c.current_of-current.ensures.0 ∙ ap (λ sheet. mover sheet (frames_seen c.as_slice.result.now)) c.sheet.ensures.same
-    ∙ ap (λ frames. mover about.sheet (frames_seen frames)) c.as_slice.ensures.value)
+    c.requires.ready.current.0

@@ -47,5 +47,6 @@ returns-clause-ready g c =
       play = goes_on m play c.pass.new.self c.do_effects.new.table.table (with_frames m.control (frames_seen c.do_effects.new.frames.items))
           (g.D.Dealer.dealing c.args.dealer.now) (g.D.Dealer.state c.args.dealer.now) (g.D.Dealer.state c.do_effects.new.dealer)
           (subst (IsPath c.args.about.now.sheet) (sym c.pass.ensures) (past_is_path m play)) play.turn play.counts (returns-clause-leads g c);
+      current = c.do_effects.ensures.current;
       kept = λ site is. absurd (not_offered m site _ (c.requires.ready.kept site is).offered c.requires.here refl);
     }

@@ -31,12 +31,12 @@ returns-clause-leads c =
     let leaves = subst (Leaves m.path path) c.if-not-leave.false c.leave.ensures in
     let back = left_stage m c.requires.ready.play path leaves in
     λ dealing k.
-    turn_leads m dealing k back.1 path (frames_seen c.pass_frame.new.frames.items)
+    turn_leads m dealing k back.1 path (frames_seen c.pass_frame-self.new.frames.items)
     (not_round about.sheet m.path c.requires.ready.play.stands (ap stage_in c.requires.end)) leaves back.2
     (past_end (body_at (item_list about.sheet.items) m.path.outer) m.path.next c.requires.end)
     (ap (λ class. passed (owner_count about.sheet class) m.control.frames) (sym (c.class.ensures back.1 back.2))
     ∙ ap (λ count. passed count m.control.frames) (sym c.member_count-count.ensures.count)
-    ∙ sym c.pass_frame.ensures)
+    ∙ sym c.pass_frame-self.ensures.passed)
 
 pub returns-clause-ready : goal.returns-clause-ready
 returns-clause-ready c =
@@ -48,7 +48,8 @@ returns-clause-ready c =
     let back = left_stage m play path leaves in
     record {
       laid = c.requires.ready.laid;
-      play = goes_on m play path m.table (with_frames m.control (frames_seen c.pass_frame.new.frames.items)) still 0 0
+      play = goes_on m play path m.table (with_frames m.control (frames_seen c.pass_frame-self.new.frames.items)) still 0 0
           back.0 play.turn play.counts (returns-clause-leads c still 0);
+      current = c.pass_frame-self.ensures.current;
       kept = λ site is. absurd (not_offered m site _ (c.requires.ready.kept site is).offered c.requires.end refl);
     }

@@ -36,6 +36,7 @@ returns-then-has_ended-clause-ready c =
           (subst (IsPath about.sheet) (sym c.pass.ensures) (past_is_path m play)) play.turn play.counts
           (close_leads m still 0 s frames c.requires.round (ap stage_in here.3) (sym c.has_ended.ensures ∙ c.if-has_ended.true) (sym c.close_frame.ensures)
           ∙ ap (λ path. goes 0 (config_of (moved m path m.table (with_frames m.control frames)))) (sym c.pass.ensures));
+      current = c.current_in-self.ensures;
       kept = λ site is. absurd (not_offered m site _ (c.requires.ready.kept site is).offered here.3 refl);
     }
 
@@ -67,5 +68,6 @@ returns-clause-ready c =
       play = goes_on m play c.enter.new.self m.table (one_turn_more m.control) still 0 0
           (subst (IsPath about.sheet) (sym c.enter.ensures) (into_is_path m play s (ap stage_in here.3)))
           (omega (arith, below)) (one_turn_counts m.control.turn m.control.made play.counts) (returns-clause-leads c still 0);
+      current = c.requires.ready.current;
       kept = λ site is. absurd (not_offered m site _ (c.requires.ready.kept site is).offered here.3 refl);
     }

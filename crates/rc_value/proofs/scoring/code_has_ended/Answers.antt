@@ -7,7 +7,7 @@ use Rattle.rc_rules.specs.Control.{frames_seen}
 use Rattle.rc_value.specs.Scene.{scene_seen}
 use Rattle.rc_code.specs.declared.flat.FlatTest.TheVariants.{EachHas}
 use Rattle.rc_code.specs.FlatMeaning.{flat_meant}
-use Rattle.rc_value.proofs.scoring.has_ended_by.Goals as goal
+use Rattle.rc_value.proofs.scoring.code_has_ended.Goals as goal
 
 pub returns-in-Some-EachHas : goal.returns-in-Some-EachHas
 returns-in-Some-EachHas c =

@@ -4,7 +4,7 @@ use Rattle.rc_play_spec.specs.Owners.{is_stage_of}
 use Rattle.rc_rules.specs.Control.{frames_seen}
 use Rattle.rc_value.specs.Current.{IsCurrent}
 use Rattle.rc_value.proofs.StageLemmas.{current_opened}
-use Rattle.rc_value.proofs.frames.open_frame_by.Goals as goal
+use Rattle.rc_value.proofs.frames.open_frame.Goals as goal
 
 pub returns-clause-current : goal.returns-clause-current
 returns-clause-current c =

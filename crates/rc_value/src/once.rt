@@ -1,0 +1,147 @@
+//! What a test asks of the cards that its innermost variable runs over, where that is at hand: all else that the test
+//! reads is read once for all of them, with no list and with no other test.
+ghost use Rattle.std.specs.Prelude.{◌≡◌, true, IfSome, option_map};
+ghost use Rattle.rc_ast.specs.Names.{who_seen};
+ghost use Rattle.rc_ast.specs.Expressions.{card_seen, coll_seen, test_seen};
+ghost use Rattle.rc_value.specs.Once.{IsCardOnce, IsTopOnce, IsOuterOwner, alike, valued};
+ghost use Rattle.rc_value.specs.Scene.{scene_seen};
+ghost use Rattle.rc_value.specs.Sought.{IsSought};
+
+use crate::Card;
+use crate::leaves::attr_of;
+use crate::rows::top_card;
+use crate::scene::Scene;
+use crate::scope::Bindings;
+use crate::sought::{Likeness, Sought, opposite};
+use crate::wanted::{WantedValue, is_variable};
+use rc_ast::{CardExpr, CollExpr, Test, Who};
+
+// Whether an owner is no variable but one of so many outer ones.
+#[inline(always)]
+fn is_outer_owner(who: Who, count: usize) -> bool
+    ensures { result ≡ true → IsOuterOwner count (who_seen who) }
+{
+    match who {
+        Who::TeamOfVar(var) => (var as usize) < count,
+        Who::Var(var) => (var as usize) < count,
+        Who::Game => true,
+        Who::CurrentPlayer => true,
+        Who::CurrentTeam => true,
+        Who::TeamOfCurrent => true,
+    }
+}
+
+// The card at the top of a location or of an outer variable's cards; there may be none.
+#[inline(always)]
+fn top_once(scene: &Scene, scope: &Bindings, expr: &CollExpr) -> Option<Option<Card>>
+    ensures { IfSome result (IsTopOnce (scene_seen scene.now) scope.now (coll_seen expr.now)) }
+{
+    match expr {
+        CollExpr::Loc(loc) => {
+            if is_outer_owner(loc.who, scope.len()) {
+                return Some(top_card(scene, scope, loc));
+            }
+            None
+        }
+        CollExpr::Var(var) => {
+            if (*var as usize) < scope.len() {
+                return Some(scope.group(*var).last());
+            }
+            None
+        }
+        _ => None,
+    }
+}
+
+// The card of an outer variable, or at the top of such cards; there may be none. Whatever one more variable stands for.
+#[inline(always)]
+fn card_once(scene: &Scene, scope: &Bindings, expr: &CardExpr) -> Option<Option<Card>>
+    ensures { IfSome result (IsCardOnce (scene_seen scene.now) scope.now (card_seen expr.now)) }
+{
+    match expr {
+        CardExpr::Var(var) => {
+            if (*var as usize) < scope.len() {
+                return Some(scope.card(*var));
+            }
+            None
+        }
+        CardExpr::Top(cards) => top_once(scene, scope, cards),
+        _ => None,
+    }
+}
+
+// To have the value of a card, if the card is known.
+#[inline(always)]
+fn same_value(scene: &Scene, name: u16, card: Option<Option<Card>>, other: u16) -> Option<Sought>
+    ensures { result ≡ option_map (valued (scene_seen scene.now) name other) card }
+{
+    match card {
+        Some(card) => Some(Sought::Value(WantedValue {
+            name,
+            value: attr_of(scene, card, other),
+            equal: true,
+        })),
+        None => None,
+    }
+}
+
+// To have the face of a card, if the card is known.
+#[inline(always)]
+fn same_face(card: Option<Option<Card>>) -> Option<Sought>
+    ensures { result ≡ option_map alike card }
+{
+    match card {
+        Some(card) => Some(Sought::Face(Likeness { card, equal: true })),
+        None => None,
+    }
+}
+
+// The same of a test that is no opposite.
+#[inline(always)]
+fn equal_once(scene: &Scene, scope: &Bindings, test: &Test) -> Option<Sought>
+    ensures { IfSome result (IsSought (scene_seen scene.now) scope.now (test_seen test.now)) }
+{
+    match test {
+        Test::EqAttr(a, name, b, other) => {
+            if is_variable(a, scope.len()) {
+                return same_value(scene, *name, card_once(scene, scope, b), *other);
+            }
+            if is_variable(b, scope.len()) {
+                return same_value(scene, *other, card_once(scene, scope, a), *name);
+            }
+            None
+        }
+        Test::EqCard(a, b) => {
+            if is_variable(a, scope.len()) {
+                return same_face(card_once(scene, scope, b));
+            }
+            if is_variable(b, scope.len()) {
+                return same_face(card_once(scene, scope, a));
+            }
+            None
+        }
+        Test::Is(card, name, value) => {
+            if is_variable(card, scope.len()) {
+                return Some(Sought::Value(WantedValue {
+                    name: *name,
+                    value: Some(*value),
+                    equal: true,
+                }));
+            }
+            None
+        }
+        _ => None,
+    }
+}
+
+/// What a test asks of the innermost variable's card, where that is at hand.
+#[inline(always)]
+pub(crate) fn sought_once(scene: &Scene, scope: &Bindings, test: &Test) -> Option<Sought>
+    ensures { IfSome result (IsSought (scene_seen scene.now) scope.now (test_seen test.now)) }
+{
+    match test {
+        Test::Ne(inner) => opposite(equal_once(scene, scope, inner)),
+        Test::Not(inner) => opposite(equal_once(scene, scope, inner)),
+        _ => equal_once(scene, scope, test),
+    }
+}
