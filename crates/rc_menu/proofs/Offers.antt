@@ -150,3 +150,9 @@ first_extended item alt spot spots none is = is ∙ ap (λ xs. record { alt = al
 pub second_extended : (item : PureItem) (alt first spot : ℕ) (spots : List ℕ) → spots ≡ first ∷ [] → item ≡ record { alt = alt; spots = first ∷ spot ∷ [] } →
     item ≡ extended (record { alt = alt; spots = spots }) (spot ∷ [])
 second_extended item alt first spot spots one is = is ∙ ap (λ xs. record { alt = alt; spots = xs ++ spot ∷ [] }) (sym one)
+
+-- what an alternative with a guard offers behind no position
+pub bare_if : (item : PureItem) (passes : Bool) → item.spots ≡ [] →
+    cond passes (record { alt = item.alt; spots = [] } ∷ []) [] ≡ map (extended item) (cond passes ([] ∷ []) [])
+bare_if item true bare = ap (λ xs. record { alt = item.alt; spots = xs ++ [] } ∷ []) (sym bare)
+bare_if item false bare = refl

@@ -12,27 +12,10 @@ use rc_ast::Alt;
 use rc_code::Offer;
 use rc_rules::{About, Control, Items, Menu};
 use rc_table::Table;
-use rc_value::{Current, Scene, current_of};
+use rc_value::{Current, Scene};
 
 /// Writes what the choice with this site offers, whose alternatives these are, into a menu, whatever it held before.
 pub fn fill_menu_at(
-    about: &About,
-    table: &Table,
-    control: &Control,
-    site: u8,
-    alts: &[Alt],
-    menu: &mut Items,
-)
-    requires laid { table.now.shape ≡ about.now.shape }
-    requires alts { alts_seen alts.now ≡ alts_at about.now.sheet site }
-    ensures { menu_seen menu.new.items ≡ menu_at about.now site table.now.table (control_seen control.now) }
-{
-    let current = current_of(about.sheet(), about.lookup(), control.frames.as_slice());
-    fill_menu_by(about, current, table, control, site, alts, menu);
-}
-
-/// The same where it is known who is current.
-pub fn fill_menu_by(
     about: &About,
     current: Current,
     table: &Table,
@@ -58,7 +41,7 @@ pub fn fill_menu_by(
 
 /// The same with alternatives whose guards may be known in parts.
 #[inline(always)]
-pub fn fill_offers_by(
+pub fn fill_offers_at(
     about: &About,
     current: Current,
     table: &Table,

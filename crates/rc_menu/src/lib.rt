@@ -16,5 +16,5 @@ mod offering;
 mod parts;
 
 pub use bounds::item_bounds;
-pub use filling::{copy_menu, fill_menu_at, fill_menu_by, fill_offers_by};
+pub use filling::{copy_menu, fill_menu_at, fill_offers_at};
 pub use menu::{fill_menu, menu_of};

@@ -1,10 +1,13 @@
 //! What a choice offers.
-ghost use Rattle.std.specs.Prelude.{◌≡◌, ◌+◌, ◌<◌, ◌≤◌, ◌++◌, ◌∷◌, [], length, map, take, if◌then◌else◌, All, IfOk};
+ghost use Rattle.std.specs.Prelude.{◌≡◌, ◌+◌, ◌<◌, ◌≤◌, ◌++◌, ◌∷◌, [], length, map, take, if◌then◌else◌};
+ghost use Rattle.std.specs.Prelude.{All, IfOk, IfSome};
 ghost use Rattle.rc_base.specs.Numbers.{below};
 ghost use Rattle.rc_base.specs.Limits.{most_items};
 ghost use Rattle.rc_play_spec.specs.Value.{card_bound, player_bound, group_bound, coll_value, groups_by};
 ghost use Rattle.rc_play_spec.specs.Menu.{spots_of, from_each, alts_at, menu_of as pure_menu_of, menu_from as pure_menu_from};
-ghost use Rattle.rc_ast.specs.Expressions.{coll_seen};
+ghost use Rattle.rc_sheet_spec.specs.Sheet.{Effects, cards_in, do_alt, each_card};
+ghost use Rattle.rc_ast.specs.Names.{loc_seen};
+ghost use Rattle.rc_ast.specs.Expressions.{coll_seen, domain_seen};
 ghost use Rattle.rc_ast.specs.Items.{alt_seen, alts_seen};
 ghost use Rattle.rc_rules.specs.Menu.{item_seen, menu_seen};
 ghost use Rattle.rc_value.specs.Cards.{values_seen};
@@ -17,14 +20,14 @@ ghost use Rattle.rc_menu.specs.Menu.{extended};
 
 use crate::alike::{groups_inside, groups_of, offered_alike};
 use crate::offering::{is_filled, offer_count, offer_guarded, offer_in_parts, with_spot};
-use rc_ast::{Alt, CollExpr, Domain};
+use rc_ast::{Alt, CollExpr, Domain, Loc};
 use rc_code::Offer;
 use rc_deck::Memory;
 use rc_play_spec::alike_states_have_equal_menus;
 use rc_rules::{Item, Items, Spots};
 use rc_value::{
-    Bind, Bindings, Cards, Collection, Scene, Values, cards_of, coll_of, note_values, regroup,
-    test_of, value_at,
+    Bind, Bindings, Cards, Collection, Scene, Values, cards_of, coll_of, ids_of, note_values,
+    regroup, test_of, value_at,
 };
 use std::alloc::Global;
 
@@ -451,7 +454,67 @@ fn make_offer(scene: &Scene, scope: &Bindings, one: &Offer, item: &Item, menu: &
                 offer(scene, scope, one.alt(), None, item, menu);
             }
         }
-        None => offer(scene, scope, one.alt(), None, item, menu),
+        None => offer_bare(scene, scope, one.alt(), item, menu),
+    }
+}
+
+// The items that an alternative offers behind no position. Most often it needs no walk over a tree.
+#[inline(always)]
+fn offer_bare(scene: &Scene, scope: &Bindings, alt: &Alt, item: &Item, menu: &mut Items)
+    requires fits { length scope.now + alt_depth (alt_seen alt.now) ≤ 5 }
+    requires room { length item.now.spots.items + domains_in (alt_seen alt.now) ≤ 4 }
+    requires bare { item.now.spots.items ≡ [] }
+    requires free { length menu.old.items < most_items }
+    ensures { menu_seen menu.new.items ≡ take most_items (menu_seen menu.old.items
+        ++ map (extended (item_seen item.now)) (spots_of (scene_seen scene.now) scope.now (alt_seen alt.now))) }
+{
+    match alt {
+        Alt::Do(_) => put_bare(menu, item.alt),
+        Alt::If(guard, _) => put_bare_if(menu, item.alt, test_of(scene, scope, guard)),
+        Alt::Any(domain, _, inner) => match free_location(domain, inner) {
+            Some(loc) => offer_count(ids_of(scene, scope, loc).len(), item, menu),
+            None => offer(scene, scope, alt, None, item, menu),
+        },
+    }
+}
+
+// The location whose cards a domain has, if nothing is asked of them.
+#[inline(always)]
+fn free_location<'d>(domain: &'d Domain, inner: &Alt) -> Option<&'d Loc>
+    ensures { IfSome result (λ loc. (effects : Effects)
+        × (domain_seen domain.now ≡ each_card (cards_in (loc_seen loc.now))) × (alt_seen inner.now ≡ do_alt effects)) }
+{
+    match inner {
+        Alt::Do(_) => match domain {
+            Domain::Coll(cards) => match cards {
+                CollExpr::Loc(loc) => Some(loc),
+                _ => None,
+            },
+            _ => None,
+        },
+        _ => None,
+    }
+}
+
+// Puts an item without positions behind the others.
+#[inline(always)]
+fn put_bare(menu: &mut Items, alt: usize)
+    requires free { length menu.old.items < most_items }
+    ensures { menu_seen menu.new.items ≡ take most_items (menu_seen menu.old.items
+        ++ record { alt = alt; spots = [] } ∷ []) }
+{
+    menu.push(first_item(alt));
+}
+
+// The same where it passes.
+#[inline(always)]
+fn put_bare_if(menu: &mut Items, alt: usize, passes: bool)
+    requires free { length menu.old.items < most_items }
+    ensures { menu_seen menu.new.items ≡ take most_items (menu_seen menu.old.items
+        ++ (if passes then record { alt = alt; spots = [] } ∷ [] else [])) }
+{
+    if passes {
+        put_bare(menu, alt);
     }
 }
 

@@ -84,8 +84,8 @@ fn is_bare(item: &Item) -> bool
 fn first_spot(alt: usize, spot: u16) -> Item
     ensures { item_seen result ≡ record { alt = alt; spots = spot ∷ [] } }
 {
-    let mut spots = Spots::new();
-    spots.push(spot);
+    let mut spots = Spots::from([spot, 0, 0, 0]);
+    spots.truncate(1);
     Item { alt, spots }
 }
 
