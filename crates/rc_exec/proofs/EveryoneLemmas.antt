@@ -1,47 +1,149 @@
--- Setting a number of each player to one value, and gathering the cards of a location of each, is what the effect does for one player
--- after the other.
-use Rattle.std.proofs.Common.{◌≡◌, ◌≢◌, ℕ, ℤ, zero, suc, List, [], ◌∷◌, ◌++◌, length, map, slice_get, Option, Some, None, refl, ap, ◌∙◌, arith}
-use Rattle.std.specs.Prelude.{fold}
-use Rattle.rc_sheet_spec.specs.Sheet.{Effects, effect, no_effect, Who, game, current_player, current_team, team_of_current, team_of_var, who_var, Loc, LocName, player_class}
+-- Changing a number at each player's turn, and gathering the cards of a location of each, is what the effect does for
+-- one player after the other.
+use Rattle.std.proofs.Common.{◌≡◌, ◌≢◌, ℕ, zero, suc, ◌+◌, ◌<◌, ◌≤◌, nat_lt, cond, Bool, true, false, ◌&&◌, List, []}
+use Rattle.std.proofs.Common.{◌∷◌, ◌++◌, length, map, slice_get, Option, Some, None, option_map, refl, sym, ap, ◌∙◌}
+use Rattle.std.proofs.Common.{subst, arith}
+use Rattle.std.specs.Prelude.{fold, sum_by, IfSome}
+use Rattle.std.specs.List.{AllByRecursion}
+use Rattle.std.proofs.lemmas.Bool.{lt-ltb, ltb-true}
+use Rattle.std.proofs.lemmas.List.Sums.{sum_by-cons}
+use Rattle.rc_base.specs.Limits.{most_numbers}
+use Rattle.rc_base.specs.Numbers.{below}
+use Rattle.rc_sheet_spec.specs.Sheet.{Sheet, Class, game_class, team_class, Effects, effect, no_effect, Who, game}
+use Rattle.rc_sheet_spec.specs.Sheet.{current_player, current_team, team_of_current, team_of_var, who_var, Loc, LocName}
+use Rattle.rc_sheet_spec.specs.Sheet.{Num, NumName, IntExpr, player_class}
+use Rattle.rc_sheet_spec.specs.WellFormed.{owner_count}
 use Rattle.rc_sheet_spec.specs.Naming.{class_of}
 use Rattle.rc_play_spec.specs.About.{About, scene_at}
 use Rattle.rc_play_spec.specs.Control.{Frame}
-use Rattle.rc_play_spec.specs.Owners.{place_among}
+use Rattle.rc_play_spec.specs.Owners.{place_among, class_eq}
 use Rattle.rc_play_spec.specs.Scene.{CardValue, Vars}
 use Rattle.rc_play_spec.specs.Shape.{team_at}
 use Rattle.rc_play_spec.specs.Table.{Table}
-use Rattle.rc_play_spec.specs.Value.{Bind, player_bound, player_of, who_value, loc_place, cards_there, cut}
-use Rattle.rc_play_spec.specs.Effects.{Dealing, Point, scene_now, with_table, if_some, change, does}
+use Rattle.rc_play_spec.specs.Value.{Bind, player_bound, player_of, who_value, loc_place, num_place, int_value}
+use Rattle.rc_play_spec.specs.Value.{cards_there, cut}
+use Rattle.rc_play_spec.specs.Effects.{Dealing, Point, scene_now, with_table, if_some, does}
+use Rattle.rc_play_spec.proofs.CardLemmas.{numbers_below}
 use Rattle.rc_play_spec.proofs.OnePlace.{innermost_player}
+use Rattle.rc_value.specs.Leads.{effect_by}
+use Rattle.rc_value.specs.declared.change.Change.{Change}
 use Rattle.rc_undo.specs.Piled.{topped, piled}
-use Rattle.rc_exec.specs.Everyone.{setting, number_of, set_for, gathering, IsApart, location_of, gather_for}
+use Rattle.rc_exec.specs.Everyone.{AreTurns, number_of, place_of, value_of, IsPlaceOf, IsValueOf, change_for, gathering}
+use Rattle.rc_exec.specs.Everyone.{IsApart, location_of, gather_for}
+use Rattle.rc_exec.specs.declared.changes.EachPlace.{EachPlace}
+use Rattle.rc_exec.specs.declared.changes.EachValue.{EachValue}
+use Rattle.rc_exec.proofs.NumberLemmas.{number_leads}
+
+-- TURNS
+
+module _ (about : About) (dealing : Dealing ℕ) (vars : Vars) (frames : List Frame) (effects : Effects)
+    (step : Table → Bind CardValue → Table) (are : AreTurns about vars frames effects step) where
+  abbrev by_effects : Point ℕ → Bind CardValue → Point ℕ
+  by_effects mid member = does about dealing (vars ++ member ∷ []) effects mid
+
+  turns_of : (players : List ℕ) → AllByRecursion (λ p. p < about.sheet.players) players →
+      (now : Point ℕ) → now.frames ≡ frames →
+      fold by_effects now (map (λ n. player_bound n) players)
+      ≡ with_table now (fold step now.table (map (λ n. player_bound n) players))
+  turns_of [] few now same = refl
+  turns_of (player ∷ players) few now same =
+      ap (λ mid. fold by_effects mid (map (λ n. player_bound n) players)) (are dealing player few.0 now same)
+      ∙ turns_of players few.1 (with_table now (step now.table (player_bound player))) same
+
+  pub all_turns : (now : Point ℕ) → now.frames ≡ frames →
+      fold by_effects now (map (λ n. player_bound n) (below about.sheet.players))
+      ≡ with_table now (fold step now.table (map (λ n. player_bound n) (below about.sheet.players)))
+  all_turns =
+      let players = about.sheet.players in
+      turns_of (below players) (numbers_below 0 players players (omega arith))
 
 -- NUMBERS
 
-module _ (about : About) (dealing : Dealing ℕ) (vars : Vars) (name : ℕ) (value : ℤ) where
-  abbrev by_effect : Effects → Point ℕ → Bind CardValue → Point ℕ
-  by_effect effects mid member = does about dealing (vars ++ member ∷ []) effects mid
+module _ (about : About) (vars : Vars) (frames : List Frame) (how : Change) (num : Num) (expr : IntExpr)
+    (place : EachPlace) (value : EachValue)
+    (at : IsPlaceOf about vars frames num place) (by : IsValueOf about vars frames expr value) where
+  abbrev step_by : Table → Bind CardValue → Table
+  step_by = change_for (record { how = how; place = place; value = value })
 
-  abbrev one : Effects
-  one = effect (setting (length vars) name value) no_effect
+  pub change_turns : AreTurns about vars frames (effect (effect_by how num expr) no_effect) step_by
+  change_turns dealing player lt now same =
+      let inner = vars ++ player_bound player ∷ [] in
+      number_leads about dealing inner num expr now how
+      (place_of place player) (value_of now.table.numbers value player) (step_by now.table (player_bound player))
+      (ap (λ stages. num_place (scene_at about now.table stages).known inner num) same ∙ at player lt now.table)
+      (sym (ap (λ stages. int_value (scene_at about now.table stages) inner expr) same ∙ by player lt now.table))
+      refl
 
-  for_one : (player : ℕ) (now : Point ℕ) → by_effect one now (player_bound player) ≡ with_table now (set_for about.sheet name value now.table (player_bound player))
-  for_one player now =
-      ap (λ n. with_table now (if_some (change (λ old new. new) value) (number_of about.sheet name n) now.table)) (innermost_player vars player)
+-- a player's own number of a name stands as far behind the first player's as the player's number says
+module _ (sheet : Sheet) (player : ℕ) (lt : player < sheet.players) where
+  abbrev moved : Option ℕ → Option ℕ
+  moved = option_map (λ first. first + player)
 
-  for_these : (players : List ℕ) (now : Point ℕ) →
-      fold (by_effect one) now (map (λ n. player_bound n) players)
-      ≡ with_table now (fold (set_for about.sheet name value) now.table (map (λ n. player_bound n) players))
-  for_these [] now = refl
-  for_these (player ∷ players) now =
-      ap (λ mid. fold (by_effect one) mid (map (λ n. player_bound n) players)) (for_one player now)
-      ∙ for_these players (with_table now (set_for about.sheet name value now.table (player_bound player)))
+  one_class : (class : Class) →
+      place_among sheet player_class (class ∷ []) 0 player ≡ moved (place_among sheet player_class (class ∷ []) 0 0)
+  one_class game_class = refl
+  one_class team_class = refl
+  one_class player_class =
+      let here : nat_lt player sheet.players ≡ true = lt-ltb player sheet.players lt in
+      let some : 0 < sheet.players = omega (arith, lt) in
+      let there : nat_lt 0 sheet.players ≡ true = lt-ltb 0 sheet.players some in
+      let same : player ≡ 0 + player = omega arith in
+      ap (λ b. cond b (Some player) None) here ∙ ap Some same ∙ sym (ap (λ b. moved (cond b (Some 0) None)) there)
 
-  pub set_each : (effects : Effects) (players : List ℕ) (now : Point ℕ) → effects ≡ one →
-      fold (by_effect effects) now (map (λ n. player_bound n) players)
-      ≡ with_table now (fold (set_for about.sheet name value) now.table (map (λ n. player_bound n) players))
-  set_each effects players now is =
-      ap (λ effects. fold (by_effect effects) now (map (λ n. player_bound n) players)) is ∙ for_these players now
+  further : (count : ℕ) (place : Option ℕ) →
+      option_map (λ n. count + n) (moved place) ≡ moved (option_map (λ n. count + n) place)
+  further count None = refl
+  further count (Some first) =
+      let same : count + (first + player) ≡ count + first + player = omega arith in ap Some same
+
+  own_among : (classes : List Class) (name : ℕ) →
+      place_among sheet player_class classes name player ≡ moved (place_among sheet player_class classes name 0)
+  own_among [] name = refl
+  own_among (class ∷ classes) zero = one_class class
+  own_among (class ∷ classes) (suc name) =
+      ap (option_map (λ n. owner_count sheet class + n)) (own_among classes name)
+      ∙ further (owner_count sheet class) (place_among sheet player_class classes name 0)
+
+  pub own_number : (name first : ℕ) → number_of sheet name 0 ≡ Some first →
+      number_of sheet name player ≡ Some (first + player)
+  own_number name first is =
+      own_among (map (λ (num : NumName). num.class) sheet.nums) name ∙ ap moved is
+
+-- each number stands among all of them
+module _ (sheet : Sheet) (class : Class) (owner : ℕ) where
+  abbrev count : NumName → ℕ
+  count num = owner_count sheet num.class
+
+  later : (before all : ℕ) (place : Option ℕ) →
+      IfSome place (λ n. n < all) → IfSome (option_map (λ n. before + n) place) (λ n. n < before + all)
+  later before all None few = tt
+  later before all (Some n) few = omega (arith, few)
+
+  guarded : (b c : Bool) (all : ℕ) → (c ≡ true → owner < all) → IfSome (cond (b && c) (Some owner) None) (λ n. n < all)
+  guarded false c all few = tt
+  guarded true false all few = tt
+  guarded true true all few = few refl
+
+  few_numbers : (nums : List NumName) (name : ℕ) →
+      IfSome (place_among sheet class (map (λ (num : NumName). num.class) nums) name owner) (λ n. n < sum_by count nums)
+  few_numbers [] name = tt
+  few_numbers (num ∷ nums) zero =
+      let place = place_among sheet class (num.class ∷ []) 0 owner in
+      subst (λ all. IfSome place (λ n. n < all)) (sym (sum_by-cons count num nums))
+      (guarded (class_eq num.class class) (nat_lt owner (count num)) (count num + sum_by count nums)
+      (λ is. let less : owner < count num = ltb-true owner (count num) is in omega (arith, less)))
+  few_numbers (num ∷ nums) (suc name) =
+      let place = place_among sheet class (map (λ (num : NumName). num.class) nums) name owner in
+      subst (λ all. IfSome (option_map (λ n. count num + n) place) (λ n. n < all)) (sym (sum_by-cons count num nums))
+      (later (count num) (sum_by count nums) place (few_numbers nums name))
+
+  pub few_places : (name n : ℕ) →
+      place_among sheet class (map (λ (num : NumName). num.class) sheet.nums) name owner ≡ Some n →
+      sum_by count sheet.nums ≤ most_numbers → n ≤ most_numbers
+  few_places name n is few =
+      let all = sum_by count sheet.nums in
+      let less : n < all = subst (λ place. IfSome place (λ n. n < all)) is (few_numbers sheet.nums name) in
+      omega (arith, less, few)
 
 -- CARDS
 

@@ -18,7 +18,7 @@ ghost use Rattle.rc_code.specs.Implements.{IsSimple, AreSimple};
 ghost use Rattle.rc_undo.specs.Undo.{Keeps};
 ghost use Rattle.rc_rules.specs.Dealer.{ShuffledBy};
 
-use crate::everyone::{gather_all, gather_for_each, set_all, set_for_each};
+use crate::everyone::{change_all, change_for_each, gather_all, gather_for_each};
 use crate::scopes::one_more;
 use crate::simple::do_simple;
 use rc_ast::{CollExpr, Domain, IntExpr};
@@ -207,7 +207,7 @@ fn do_if<D: Dealer>(
     ensures dealing { D.dealing dealer.new ≡ D.dealing dealer.old }
 {
     if asked_now(context, test, board.table(), &*frames) {
-        return do_block(context, inside, board, frames, dealer);
+        return do_few(context, inside, board, frames, dealer);
     }
     Ok(())
 }
@@ -239,7 +239,7 @@ fn repeat<D: Dealer>(
 {
     let times = times_of(int_now(context, count, board.table(), &*frames));
     for _ in 0..times {
-        match do_block(context, inside, board, frames, dealer) {
+        match do_inside(context, inside, board, frames, dealer) {
             Ok(()) => {}
             Err(Memory) => return Err(Memory),
         }
@@ -282,8 +282,8 @@ fn for_each<D: Dealer>(
     ensures dealing { D.dealing dealer.new ≡ D.dealing dealer.old }
 {
     match domain {
-        Domain::Players => match set_for_each(context, inside) {
-            Some(each) => set_all(context.about, each, board),
+        Domain::Players => match change_for_each(context, inside, board.table(), &*frames) {
+            Some(each) => change_all(context.about, each, board),
             None => match gather_for_each(context, inside) {
                 Some(each) => gather_all(context, each, board, &*frames),
                 None => for_players(context, inside, board, frames, dealer),
@@ -454,7 +454,37 @@ fn do_for<'g, D: Dealer>(
     do_inside(&inner, inside, board, frames, dealer)
 }
 
-// Does the effects of a block. A single effect takes no loop, and neither does a single `if`.
+/// Does the effects of a block. A single effect takes no loop.
+#[tactic(auto, using(crate::proofs::ShuffleLemmas::not_shuffled))]
+#[cycle(blocks)]
+#[inline(always)]
+pub fn do_few<D: Dealer>(
+    context: &Context,
+    code: &[Instruction],
+    board: &mut Board,
+    frames: &mut Frames,
+    dealer: &mut D,
+) -> Result<(), Memory>
+    requires stands { IsContextOf context.now board.old.laid frames.old.items }
+    requires well { in_scope context.now AreEffectsUnder (effects_in (list_seen code.now)) }
+    requires simple { AreSimple (list_seen code.now) }
+    ensures does { OnOk result (does context.now.about.now (D.dealing dealer.old) context.now.scope.now
+        (effects_in (list_seen code.now))
+        (point_of board.old.laid frames.old.items (D.state dealer.old))
+        ≡ point_of board.new.laid frames.new.items (D.state dealer.new)) }
+    ensures stands { OnOk result (IsContextOf context.now board.new.laid frames.new.items) }
+    ensures keeps { Keeps board.old board.new }
+    ensures quiet { board.old.notes ≡ false → IsOk result }
+    ensures shuffled { ShuffledBy D.dealing D.state dealer.old dealer.new }
+    ensures dealing { D.dealing dealer.new ≡ D.dealing dealer.old }
+{
+    match code {
+        [Instruction::Simple(effect)] => do_simple(context, effect, board, frames, dealer),
+        _ => do_block(context, code, board, frames, dealer),
+    }
+}
+
+// Does the effects of a block. A single `if` takes no loop either.
 #[tactic(auto, using(crate::proofs::ShuffleLemmas::not_shuffled))]
 #[cycle(blocks)]
 #[inline(always)]
@@ -478,11 +508,8 @@ fn do_inside<D: Dealer>(
     ensures shuffled { ShuffledBy D.dealing D.state dealer.old dealer.new }
     ensures dealing { D.dealing dealer.new ≡ D.dealing dealer.old }
 {
-    match code {
-        [Instruction::Simple(effect)] => do_simple(context, effect, board, frames, dealer),
-        _ => match sole_if(code) {
-            Some((test, inside)) => do_if(context, test, inside, board, frames, dealer),
-            None => do_block(context, code, board, frames, dealer),
-        },
+    match sole_if(code) {
+        Some((test, inside)) => do_if(context, test, inside, board, frames, dealer),
+        None => do_few(context, code, board, frames, dealer),
     }
 }

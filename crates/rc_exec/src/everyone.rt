@@ -1,46 +1,54 @@
-//! What is done for each player without a variable: a number of each is set to one value, or cards of each are
+//! What is done for each player without a variable: a number is changed at each one's turn, or cards of each are
 //! gathered.
-ghost use Rattle.std.specs.Prelude.{◌≡◌, true, false, length, map, fold, Some, IfSome, OnOk, IsOk};
+ghost use Rattle.std.specs.Prelude.{◌≡◌, ℕ, ◌<◌, ◌≤◌, true, false, length, map, fold, Some, IfSome, OnOk, IsOk};
 ghost use Rattle.rc_base.specs.Clamp.{IsWithinClamp};
 ghost use Rattle.rc_base.specs.Numbers.{below};
-ghost use Rattle.rc_sheet_spec.specs.Sheet.{effect, no_effect, who_var};
-ghost use Rattle.rc_sheet_spec.specs.WellFormed.{holds_references};
+ghost use Rattle.rc_sheet_spec.specs.Sheet.{effect as alone, no_effect, who_var};
+ghost use Rattle.rc_sheet_spec.specs.WellFormed.{Around, IsInt, IsEffect, AreEffects, holds_references};
 ghost use Rattle.rc_play_spec.specs.Bound.{HoldsCards};
 ghost use Rattle.rc_play_spec.specs.Effects.{if_some};
-ghost use Rattle.rc_play_spec.specs.Value.{player_bound, loc_place};
+ghost use Rattle.rc_play_spec.specs.Value.{player_bound, loc_place, num_place};
 ghost use Rattle.rc_ast.specs.Effects.{effect_seen};
-ghost use Rattle.rc_ast.specs.Names.{loc_seen, who_seen};
+ghost use Rattle.rc_ast.specs.Expressions.{int_seen};
+ghost use Rattle.rc_ast.specs.Names.{loc_seen, num_seen, who_seen};
 ghost use Rattle.rc_table.specs.Laid.{relaid};
+ghost use Rattle.rc_rules.specs.Control.{frames_seen};
 ghost use Rattle.rc_value.specs.Context.{scene_in, IsContextOf};
+ghost use Rattle.rc_value.specs.Leads.{effect_by};
 ghost use Rattle.rc_code.specs.Meaning.{effects_in};
 ghost use Rattle.rc_code.specs.Seen.{list_seen};
-ghost use Rattle.rc_exec.specs.Everyone.{number_of, set_for, setting, location_of, gather_for, gathering, IsApart};
+ghost use Rattle.rc_exec.specs.Everyone.{AreTurns, IsPlaceOf, IsValueOf, IsInRange, place_of, value_of, change_for};
+ghost use Rattle.rc_exec.specs.Everyone.{number_of, location_of, gather_for, gathering, IsApart};
 ghost use Rattle.rc_undo.specs.Undo.{Keeps};
 
+use crate::changes::{EachChange, EachPlace, EachValue};
 use crate::numbers::change_at;
-use rc_ast::{Class, CollExpr, Effect, End, IntExpr, Loc, Who};
+use rc_ast::{Class, CollExpr, Effect, End, IntExpr, Loc, Num, Who};
 use rc_code::Instruction;
 use rc_deck::Memory;
 use rc_rules::{About, Frames};
+use rc_table::Table;
 use rc_undo::Board;
-use rc_value::{Change, Context, loc_now};
+use rc_value::{Change, Context, loc_now, num_now};
 
-/// A number that each player has, by its name, and a value.
-#[derive(Clone, Copy)]
-pub struct EachNumber {
-    pub name: u16,
-    pub value: i64,
-}
-
-/// The number and the value, where a block under one more variable, which stands for a player, does nothing but set a
-/// number of that player to a value that is written out.
+/// The change, where a block under one more variable, which stands for a player, does nothing but change a number by
+/// one that is written out or that the game keeps, and both are found without the variable.
 #[inline(always)]
-pub fn set_for_each(context: &Context, code: &[Instruction]) -> Option<EachNumber>
-    ensures { IfSome result (λ each. effects_in (list_seen code.now)
-        ≡ effect (setting (length context.now.scope.now) each.name each.value) no_effect) }
+pub fn change_for_each(
+    context: &Context,
+    code: &[Instruction],
+    table: &Table,
+    frames: &Frames,
+) -> Option<EachChange>
+    requires stands { IsContextOf context.now table.now frames.now.items }
+    requires well { (around : Around)
+        × AreEffects context.now.about.now.sheet around (effects_in (list_seen code.now)) }
+    ensures turns { IfSome result (λ each. AreTurns context.now.about.now context.now.scope.now
+        (frames_seen frames.now.items) (effects_in (list_seen code.now)) (change_for each)) }
+    ensures range { IfSome result (λ each. IsInRange each.value) }
 {
     match code {
-        [Instruction::Simple(effect)] => match set_of_member(effect, context.scope.len()) {
+        [Instruction::Simple(effect)] => match change_of(context, effect, table, frames) {
             Some(each) => Some(each),
             None => None,
         },
@@ -48,21 +56,121 @@ pub fn set_for_each(context: &Context, code: &[Instruction]) -> Option<EachNumbe
     }
 }
 
-// The same of an effect. So many variables stand outside that one.
+// The same of an effect.
 #[inline(always)]
-fn set_of_member(effect: &Effect, outside: usize) -> Option<EachNumber>
-    ensures { IfSome result (λ each. effect_seen effect.now ≡ setting outside each.name each.value) }
+fn change_of(
+    context: &Context,
+    effect: &Effect,
+    table: &Table,
+    frames: &Frames,
+) -> Option<EachChange>
+    requires stands { IsContextOf context.now table.now frames.now.items }
+    requires well { (around : Around) × IsEffect context.now.about.now.sheet around (effect_seen effect.now) }
+    ensures turns { IfSome result (λ each. AreTurns context.now.about.now context.now.scope.now
+        (frames_seen frames.now.items) (alone (effect_seen effect.now) no_effect) (change_for each)) }
+    ensures range { IfSome result (λ each. IsInRange each.value) }
 {
     match effect {
-        Effect::Set(num, IntExpr::Lit(value)) => {
-            if is_member(&num.who, outside) {
-                return Some(EachNumber {
-                    name: num.name,
-                    value: *value,
-                });
-            }
-            None
-        }
+        Effect::Set(num, value) => change_by(context, Change::Set, num, value, table, frames),
+        Effect::Inc(num, value) => change_by(context, Change::Increase, num, value, table, frames),
+        Effect::Dec(num, value) => change_by(context, Change::Decrease, num, value, table, frames),
+        _ => None,
+    }
+}
+
+// The same of an effect that changes a number.
+#[inline(always)]
+fn change_by(
+    context: &Context,
+    how: Change,
+    num: &Num,
+    value: &IntExpr,
+    table: &Table,
+    frames: &Frames,
+) -> Option<EachChange>
+    requires stands { IsContextOf context.now table.now frames.now.items }
+    requires well { (around : Around) × IsInt context.now.about.now.sheet around (int_seen value.now) }
+    ensures turns { IfSome result (λ each. AreTurns context.now.about.now context.now.scope.now
+        (frames_seen frames.now.items) (alone (effect_by how (num_seen num.now) (int_seen value.now)) no_effect)
+        (change_for each)) }
+    ensures range { IfSome result (λ each. IsInRange each.value) }
+{
+    let Some(place) = place_for_each(context, num, table, frames) else {
+        return None;
+    };
+    match value_for_each(context, value, table, frames) {
+        Some(value) => Some(EachChange { how, place, value }),
+        None => None,
+    }
+}
+
+// Where a number stands at each player's turn, where that is found without the variable.
+#[inline(always)]
+fn place_for_each(context: &Context, num: &Num, table: &Table, frames: &Frames) -> Option<EachPlace>
+    requires stands { IsContextOf context.now table.now frames.now.items }
+    ensures { IfSome result (λ place. IsPlaceOf context.now.about.now context.now.scope.now
+        (frames_seen frames.now.items) (num_seen num.now) place) }
+{
+    let outside = context.scope.len();
+    if is_member(&num.who, outside) {
+        return own_place(context.about, num.name);
+    }
+    if is_apart(&num.who, outside) {
+        return same_place(context, num, table, frames);
+    }
+    None
+}
+
+// Where a player's number of this name stands.
+#[inline(always)]
+fn own_place(about: &About, name: u16) -> Option<EachPlace>
+    ensures { IfSome result (λ place. (player : ℕ) → player < about.now.sheet.players
+        → number_of about.now.sheet name player ≡ Some (place_of place player)) }
+{
+    // what an about keeps
+    let _fits = about.sheet();
+    match number_at(about, name, 0) {
+        Some(first) => Some(EachPlace { first, own: true }),
+        None => None,
+    }
+}
+
+// Where a number stands whose owner isn't found by the variable.
+#[inline(always)]
+fn same_place(context: &Context, num: &Num, table: &Table, frames: &Frames) -> Option<EachPlace>
+    requires stands { IsContextOf context.now table.now frames.now.items }
+    ensures { IfSome result (λ place. (player : ℕ)
+        → num_place (scene_in context.now table.now frames.now.items).known context.now.scope.now (num_seen num.now)
+        ≡ Some (place_of place player)) }
+{
+    // what an about keeps
+    let _fits = context.about.sheet();
+    match num_now(context, num, table, frames) {
+        Some(first) => Some(EachPlace { first, own: false }),
+        None => None,
+    }
+}
+
+// What an expression stands for at each player's turn, where it is one number.
+#[inline(always)]
+fn value_for_each(
+    context: &Context,
+    expr: &IntExpr,
+    table: &Table,
+    frames: &Frames,
+) -> Option<EachValue>
+    requires stands { IsContextOf context.now table.now frames.now.items }
+    requires well { (around : Around) × IsInt context.now.about.now.sheet around (int_seen expr.now) }
+    ensures value { IfSome result (λ value. IsValueOf context.now.about.now context.now.scope.now
+        (frames_seen frames.now.items) (int_seen expr.now) value) }
+    ensures range { IfSome result (λ value. IsInRange value) }
+{
+    match expr {
+        IntExpr::Lit(value) => Some(EachValue::Literal(*value)),
+        IntExpr::Num(num) => match place_for_each(context, num, table, frames) {
+            Some(place) => Some(EachValue::Number(place)),
+            None => None,
+        },
         _ => None,
     }
 }
@@ -78,18 +186,18 @@ fn is_member(who: &Who, outside: usize) -> bool
     }
 }
 
-/// Sets a number of each player.
+/// Changes a number at each player's turn.
 #[inline(never)]
-pub fn set_all(about: &About, each: EachNumber, board: &mut Board) -> Result<(), Memory>
-    requires { IsWithinClamp each.value }
+pub fn change_all(about: &About, each: EachChange, board: &mut Board) -> Result<(), Memory>
+    requires { IsInRange each.value }
     ensures leads { OnOk result (board.new.laid ≡ relaid board.old.laid
-        (fold (set_for about.now.sheet each.name each.value) board.old.laid.table
+        (fold (change_for each) board.old.laid.table
         (map (λ n. player_bound n) (below about.now.sheet.players)))) }
     ensures keeps { Keeps board.old board.new }
     ensures quiet { board.old.notes ≡ false → IsOk result }
 {
     for player in 0..about.sheet().players {
-        match set_one(about, each, player, board) {
+        match change_one(each, player, board) {
             Ok(()) => {}
             Err(Memory) => return Err(Memory),
         }
@@ -97,19 +205,41 @@ pub fn set_all(about: &About, each: EachNumber, board: &mut Board) -> Result<(),
     Ok(())
 }
 
-// Sets a player's number, where there is one.
+// Changes the number at a player's turn.
 #[inline(always)]
-fn set_one(about: &About, each: EachNumber, player: u8, board: &mut Board) -> Result<(), Memory>
-    requires { IsWithinClamp each.value }
+fn change_one(each: EachChange, player: u8, board: &mut Board) -> Result<(), Memory>
+    requires { IsInRange each.value }
     ensures leads { OnOk result (board.new.laid
-        ≡ relaid board.old.laid (set_for about.now.sheet each.name each.value board.old.laid.table
-        (player_bound player))) }
+        ≡ relaid board.old.laid (change_for each board.old.laid.table (player_bound player))) }
     ensures keeps { Keeps board.old board.new }
     ensures quiet { board.old.notes ≡ false → IsOk result }
 {
-    match number_at(about, each.name, player) {
-        Some(at) => change_at(board, at, Change::Set, each.value),
-        None => Ok(()),
+    let value = value_for(each.value, player, board.table());
+    change_at(board, place_for(each.place, player), each.how, value)
+}
+
+// Where a number stands at a player's turn.
+#[inline(always)]
+fn place_for(place: EachPlace, player: u8) -> u16
+    ensures { result ≡ place_of place player }
+{
+    if place.own {
+        place.first + u16::from(player)
+    } else {
+        place.first
+    }
+}
+
+// What a number changes by at a player's turn.
+#[inline(always)]
+fn value_for(value: EachValue, player: u8, table: &Table) -> i64
+    requires { IsInRange value }
+    ensures value { result ≡ value_of table.now.table.numbers value player }
+    ensures clamped { IsWithinClamp result }
+{
+    match value {
+        EachValue::Literal(value) => value,
+        EachValue::Number(place) => table.number(place_for(place, player)),
     }
 }
 
@@ -133,7 +263,7 @@ pub struct EachPile<'c> {
 #[inline(always)]
 pub fn gather_for_each<'c>(context: &Context, code: &'c [Instruction]) -> Option<EachPile<'c>>
     ensures effect { IfSome result (λ each. effects_in (list_seen code.now)
-        ≡ effect (gathering (loc_seen each.from.now) (loc_seen each.to.now)) no_effect) }
+        ≡ alone (gathering (loc_seen each.from.now) (loc_seen each.to.now)) no_effect) }
     ensures member { IfSome result (λ each. who_seen each.from.now.who ≡ who_var (length context.now.scope.now)) }
     ensures apart { IfSome result (λ each. IsApart (length context.now.scope.now) (who_seen each.to.now.who)) }
 {

@@ -22,7 +22,7 @@ ghost use Rattle.rc_code.specs.Seen.{list_seen};
 ghost use Rattle.rc_code.specs.Implements.{AreSimple};
 ghost use Rattle.rc_rules.specs.Dealer.{ShuffledBy};
 
-use crate::blocks::do_block;
+use crate::blocks::do_few;
 use crate::scopes::one_more;
 use rc_ast::{Alt, Domain};
 use rc_code::{Instruction, Offer};
@@ -113,8 +113,8 @@ fn do_here<D: Dealer>(
     ensures dealing { D.dealing dealer.new ≡ D.dealing dealer.old }
 {
     match alt {
-        Alt::Do(_) => do_block(context, block, board, frames, dealer),
-        Alt::If(_, _) => do_block(context, block, board, frames, dealer),
+        Alt::Do(_) => do_few(context, block, board, frames, dealer),
+        Alt::If(_, _) => do_few(context, block, board, frames, dealer),
         Alt::Any(domain, _, inner) => {
             do_any(context, inner, domain, block, spots, board, frames, dealer)
         }
@@ -183,8 +183,8 @@ fn do_inner<D: Dealer>(
     ensures dealing { D.dealing dealer.new ≡ D.dealing dealer.old }
 {
     match alt {
-        Alt::Do(_) => do_block(context, block, board, frames, dealer),
-        Alt::If(_, _) => do_block(context, block, board, frames, dealer),
+        Alt::Do(_) => do_few(context, block, board, frames, dealer),
+        Alt::If(_, _) => do_few(context, block, board, frames, dealer),
         Alt::Any(_, _, _) => do_alt(context, alt, block, spots, board, frames, dealer),
     }
 }

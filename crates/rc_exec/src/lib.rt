@@ -4,6 +4,7 @@
 #![tactic(auto)]
 
 mod blocks;
+mod changes;
 mod everyone;
 mod items;
 mod moving;

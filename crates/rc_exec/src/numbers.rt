@@ -1,44 +1,26 @@
 //! Numbers that are set and changed.
 ghost use Rattle.std.specs.Prelude.{◌≡◌, false, OnOk, IsOk};
-ghost use Rattle.rc_base.specs.Clamp.{IsWithinClamp};
+ghost use Rattle.rc_base.specs.Clamp.{clamped, IsWithinClamp};
 ghost use Rattle.rc_play_spec.specs.Effects as effects;
+ghost use Rattle.rc_play_spec.specs.Value.{int_value, number_there};
 ghost use Rattle.rc_ast.specs.Names.{num_seen};
 ghost use Rattle.rc_ast.specs.Expressions.{int_seen};
 ghost use Rattle.rc_table.specs.Laid.{relaid};
-ghost use Rattle.rc_value.specs.Context.{IsContextOf, in_scope};
-ghost use Rattle.rc_value.specs.Under.{IsEffectUnder};
+ghost use Rattle.rc_value.specs.Context.{scene_in, IsContextOf, in_scope};
+ghost use Rattle.rc_value.specs.Under.{IsEffectUnder, IsIntUnder};
 ghost use Rattle.rc_value.specs.declared.change.Change.TheVariants.{Set};
 ghost use Rattle.rc_value.specs.Leads.{LeadsTo, effect_by, new_by};
 ghost use Rattle.rc_undo.specs.Undo.{Keeps};
 
 use rc_ast::{IntExpr, Num};
+use rc_base::limits::LARGEST_NUMBER;
 use rc_deck::Memory;
 use rc_rules::Frames;
+use rc_table::Table;
 use rc_undo::Board;
-use rc_value::{Change, Context, changed_number, int_now, num_now};
+use rc_value::{Change, Context, int_now, num_now};
 
-/// Changes a number by the value of an expression.
-#[inline(never)]
-pub fn change_number(
-    context: &Context,
-    how: Change,
-    num: &Num,
-    value: &IntExpr,
-    board: &mut Board,
-    frames: &Frames,
-) -> Result<(), Memory>
-    requires stands { IsContextOf context.now board.old.laid frames.now.items }
-    requires well { in_scope context.now IsEffectUnder (effect_by how (num_seen num.now) (int_seen value.now)) }
-    ensures leads { OnOk result (LeadsTo context.now
-        (effect_by how (num_seen num.now)
-        (int_seen value.now)) board.old.laid frames.now.items board.new.laid frames.now.items) }
-    ensures keeps { Keeps board.old board.new }
-    ensures quiet { board.old.notes ≡ false → IsOk result }
-{
-    change(context, how, num, value, board, frames)
-}
-
-/// Sets a number to the value of an expression. Where that is a literal, nothing has to be read.
+/// Sets a number to the value of an expression. A value that is written out takes no call.
 #[inline(never)]
 pub fn set_number(
     context: &Context,
@@ -61,7 +43,53 @@ pub fn set_number(
     }
 }
 
-// The same where it is read.
+/// Changes a number by the value of an expression. A value that is one number takes no call.
+#[inline(never)]
+pub fn change_number(
+    context: &Context,
+    how: Change,
+    num: &Num,
+    value: &IntExpr,
+    board: &mut Board,
+    frames: &Frames,
+) -> Result<(), Memory>
+    requires stands { IsContextOf context.now board.old.laid frames.now.items }
+    requires well { in_scope context.now IsEffectUnder (effect_by how (num_seen num.now) (int_seen value.now)) }
+    ensures leads { OnOk result (LeadsTo context.now
+        (effect_by how (num_seen num.now)
+        (int_seen value.now)) board.old.laid frames.now.items board.new.laid frames.now.items) }
+    ensures keeps { Keeps board.old board.new }
+    ensures quiet { board.old.notes ≡ false → IsOk result }
+{
+    match value {
+        IntExpr::Lit(_) => change(context, how, num, value, board, frames),
+        IntExpr::Num(_) => change(context, how, num, value, board, frames),
+        _ => change_calculated(context, how, num, value, board, frames),
+    }
+}
+
+// The same, whatever the value takes.
+#[inline(never)]
+fn change_calculated(
+    context: &Context,
+    how: Change,
+    num: &Num,
+    value: &IntExpr,
+    board: &mut Board,
+    frames: &Frames,
+) -> Result<(), Memory>
+    requires stands { IsContextOf context.now board.old.laid frames.now.items }
+    requires well { in_scope context.now IsEffectUnder (effect_by how (num_seen num.now) (int_seen value.now)) }
+    ensures leads { OnOk result (LeadsTo context.now
+        (effect_by how (num_seen num.now)
+        (int_seen value.now)) board.old.laid frames.now.items board.new.laid frames.now.items) }
+    ensures keeps { Keeps board.old board.new }
+    ensures quiet { board.old.notes ≡ false → IsOk result }
+{
+    change(context, how, num, value, board, frames)
+}
+
+// The same, in line.
 #[inline(always)]
 fn change(
     context: &Context,
@@ -83,10 +111,37 @@ fn change(
     let Some(at) = num_now(context, num, table, frames) else {
         return Ok(());
     };
-    let value = int_now(context, value, table, frames);
+    let value = value_now(context, value, table, frames);
     match change_at(board, at, how, value) {
         Ok(()) => Ok(()),
         Err(Memory) => Err(Memory),
+    }
+}
+
+// The number that an expression stands for. One that the game keeps is read with no call.
+#[inline(always)]
+fn value_now(context: &Context, expr: &IntExpr, table: &Table, frames: &Frames) -> i64
+    requires stands { IsContextOf context.now table.now frames.now.items }
+    requires well { in_scope context.now IsIntUnder (int_seen expr.now) }
+    ensures value { result ≡ int_value (scene_in context.now table.now frames.now.items) context.now.scope.now
+        (int_seen expr.now) }
+    ensures clamped { IsWithinClamp result }
+{
+    match expr {
+        IntExpr::Num(num) => number_or_none(table, num_now(context, num, table, frames)),
+        _ => int_now(context, expr, table, frames),
+    }
+}
+
+// The number at a place, and 0 where there is none.
+#[inline(always)]
+fn number_or_none(table: &Table, at: Option<u16>) -> i64
+    ensures number { result ≡ number_there table.now.table.numbers at }
+    ensures clamped { IsWithinClamp result }
+{
+    match at {
+        Some(at) => table.number(at),
+        None => 0,
     }
 }
 
@@ -100,5 +155,28 @@ pub fn change_at(board: &mut Board, at: u16, how: Change, value: i64) -> Result<
     ensures quiet { board.old.notes ≡ false → IsOk result }
 {
     let old = board.table().number(at);
-    board.set_number(at, changed_number(how, old, value))
+    board.set_number(at, new_number(how, old, value))
+}
+
+// The nearest number in range to what a number becomes. With both in range, nothing overflows.
+#[inline(always)]
+fn new_number(how: Change, old: i64, value: i64) -> i64
+    requires old { IsWithinClamp old }
+    requires value { IsWithinClamp value }
+    ensures value { result ≡ clamped (new_by how old value) }
+    ensures within { IsWithinClamp result }
+{
+    match how {
+        Change::Set => value,
+        Change::Increase => nearest(old + value),
+        Change::Decrease => nearest(old - value),
+    }
+}
+
+// The number of the range that is nearest.
+#[inline(always)]
+fn nearest(number: i64) -> i64
+    ensures { result ≡ clamped number }
+{
+    number.clamp(-LARGEST_NUMBER, LARGEST_NUMBER)
 }

@@ -1,4 +1,4 @@
-use Rattle.std.proofs.Common.{map, ◌+◌, ◌*◌, ◌<◌, ◌++◌, ◌∷◌, [], length, drop, sym, ap, ◌∙◌, subst, arith}
+use Rattle.std.proofs.Common.{map, ◌+◌, ◌*◌, ◌<◌, ◌++◌, ◌∷◌, [], length, drop, refl, sym, ap, ◌∙◌, subst, arith}
 use Rattle.std.specs.Prelude.{fold}
 use Rattle.std.proofs.lemmas.Grind.{common_steps}
 use Rattle.rc_base.specs.Numbers.{below}
@@ -18,10 +18,10 @@ use Rattle.rc_table.specs.Laid.{Laid}
 use Rattle.rc_rules.specs.Control.{frames_seen}
 use Rattle.rc_value.specs.Point.{point_of}
 use Rattle.rc_value.specs.Under.{AreEffectsUnder}
-use Rattle.rc_exec.specs.Everyone.{gather_for}
+use Rattle.rc_exec.specs.Everyone.{change_for, gather_for}
 use Rattle.rc_value.proofs.EffectSteps.{one_player, no_player}
 use Rattle.rc_exec.proofs.EffectSteps.{once_more}
-use Rattle.rc_exec.proofs.EveryoneLemmas.{gather_each, set_each}
+use Rattle.rc_exec.proofs.EveryoneLemmas.{gather_each, all_turns}
 use Rattle.rc_undo.proofs.KeepsLemmas.{keeps_then}
 use Rattle.rc_exec.proofs.ShuffleLemmas.{shuffled_then}
 use Rattle.rc_exec.proofs.blocks.+blocks.Goals as goal
@@ -36,7 +36,7 @@ do_block-do_first-requires g t c κs within =
     let long = ap length rest in
     let shorter = loop.invariant.shorter in
     let whole = c.decreases in
-    let less : 7 * length c.in-Some.behind.now + 6 < t = omega (arith, long, shorter, whole) in (
+    let less : 8 * length c.in-Some.behind.now + 7 < t = omega (arith, long, shorter, whole) in (
       less,
       (
         within,
@@ -170,9 +170,9 @@ for_each-returns-in-Some-clause-does g t c =
     let frames = c.args.frames.now.items in
     let now = point_of c.args.board.now.laid frames state in
     let effects = effects_in (list_seen c.args.inside.now) in
-    on_ok c.set_all.result c.set_all.ensures.leads (λ leads.
+    on_ok c.change_all.result c.change_all.ensures.leads (λ leads.
     ap (λ domain. does_one about dealing vars (for_each (domain_seen domain) c.args.bound effects) now) c.in-Players.is
-    ∙ set_each about dealing vars c.in-Some.each.name c.in-Some.each.value effects (below about.sheet.players) now c.in-Some.ensures
+    ∙ all_turns about dealing vars (frames_seen frames) effects (change_for c.in-Some.each) c.in-Some.ensures.turns now refl
     ∙ ap (λ (laid : Laid). point_of laid frames state) (sym leads))
 
 pub for_each-returns-in-Some-gather_for_each-clause-does : goal.for_each-returns-in-Some-gather_for_each-clause-does

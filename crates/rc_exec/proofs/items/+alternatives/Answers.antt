@@ -10,10 +10,10 @@ use Rattle.rc_value.proofs.MemberLemmas.{bare_any}
 use Rattle.rc_exec.proofs.items.+alternatives.Goals as goal
 
 pub do_here-returns-in-Do-clause-current : goal.do_here-returns-in-Do-clause-current
-do_here-returns-in-Do-clause-current g t c = on_ok c.do_block.result c.do_block.ensures.stands (λ stands. stands.1)
+do_here-returns-in-Do-clause-current g t c = on_ok c.do_few.result c.do_few.ensures.stands (λ stands. stands.1)
 
 pub do_here-returns-in-If-clause-current : goal.do_here-returns-in-If-clause-current
-do_here-returns-in-If-clause-current g t c = on_ok c.do_block-in-If.result c.do_block-in-If.ensures.stands (λ stands. stands.1)
+do_here-returns-in-If-clause-current g t c = on_ok c.do_few-in-If.result c.do_few-in-If.ensures.stands (λ stands. stands.1)
 
 pub do_any-returns-in-None-clause-does : goal.do_any-returns-in-None-clause-does
 do_any-returns-in-None-clause-does g t c =

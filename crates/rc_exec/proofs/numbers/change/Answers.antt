@@ -18,10 +18,10 @@ returns-in-Ok-clause-leads c =
     let num = num_seen c.args.num.now in
     let value = int_seen c.args.value.now in
     let laid = c.change_at.new.board.laid in
-    let fits : SFits w64 c.int_now-value.result = search rules in
+    let fits : SFits w64 c.value_now-value.result = search rules in
     λ dealing state.
-    number_leads context.about.now dealing context.scope.now num value (point_of c.args.board.now.laid frames state) c.args.how c.in-Some.at c.int_now-value.result
+    number_leads context.about.now dealing context.scope.now num value (point_of c.args.board.now.laid frames state) c.args.how c.in-Some.at c.value_now-value.result
     laid.table
     (ap (λ (laid : Laid). num_place (scene_in context laid frames).known context.scope.now num) (sym c.table-table.ensures) ∙ sym c.num_now.ensures ∙ c.in-Some.is)
-    (c.int_now-value.ensures.value ∙ ap (λ (laid : Laid). int_value (scene_in context laid frames) context.scope.now value) c.table-table.ensures)
-    (ap (λ (laid : Laid). laid.table) c.in-Ok.ensures.leads ∙ ap (λ v. change (new_by c.args.how) v c.in-Some.at c.args.board.now.laid.table) (to_z-of_z w64 c.int_now-value.result fits))
+    (c.value_now-value.ensures.value ∙ ap (λ (laid : Laid). int_value (scene_in context laid frames) context.scope.now value) c.table-table.ensures)
+    (ap (λ (laid : Laid). laid.table) c.in-Ok.ensures.leads ∙ ap (λ v. change (new_by c.args.how) v c.in-Some.at c.args.board.now.laid.table) (to_z-of_z w64 c.value_now-value.result fits))

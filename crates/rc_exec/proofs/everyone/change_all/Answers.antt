@@ -1,10 +1,10 @@
-use Rattle.std.proofs.Common.{sym, ap, ◌∙◌, arith}
+use Rattle.std.proofs.Common.{◌≤◌, sym, ap, ◌∙◌, arith}
 use Rattle.rc_sheet_spec.specs.Sheet.{Sheet}
 use Rattle.rc_table.specs.Laid.{Laid, relaid}
-use Rattle.rc_exec.specs.Everyone.{set_for}
+use Rattle.rc_exec.specs.Everyone.{change_for}
 use Rattle.rc_value.proofs.EffectSteps.{one_player, no_player}
 use Rattle.rc_undo.proofs.KeepsLemmas.{keeps_then}
-use Rattle.rc_exec.proofs.everyone.set_all.Goals as goal
+use Rattle.rc_exec.proofs.everyone.change_all.Goals as goal
 
 pub returns-in-Err-clause-keeps : goal.returns-in-Err-clause-keeps
 returns-in-Err-clause-keeps c = keeps_then _ _ _ c.loop-player.invariant.0 c.in-Err.ensures.keeps
@@ -16,7 +16,7 @@ loop-player-preserved c =
     let players = ap (λ (s : Sheet). s.players) c.sheet.ensures.same in
     let table = ap (λ (l : Laid). l.table) c.in-Ok.ensures.leads in (
       keeps_then _ _ _ loop.invariant.0 c.in-Ok.ensures.keeps,
-      one_player (set_for sheet c.args.each.name c.args.each.value) sheet.players loop.player loop.board.laid.table _ _
+      one_player (change_for c.args.each) sheet.players loop.player loop.board.laid.table _ _
           (omega (arith, c.loop-player-test.true, players)) (sym table) loop.invariant.1,
     )
 
@@ -25,7 +25,8 @@ returns-clause-leads c =
     let loop = c.loop-player in
     let sheet = c.args.about.now.sheet in
     let players = ap (λ (s : Sheet). s.players) c.sheet.ensures.same in
-    let all = sym (no_player (set_for sheet c.args.each.name c.args.each.value) sheet.players loop.player loop.board.laid.table (omega (arith, c.loop-player-test.false, players)))
+    let less : sheet.players ≤ loop.player = omega (arith, c.loop-player-test.false, players) in
+    let all = sym (no_player (change_for c.args.each) sheet.players loop.player loop.board.laid.table less)
     ∙ loop.invariant.1 in
     ap (λ shape. record { shape = shape; table = loop.board.laid.table }) loop.invariant.0.shape
     ∙ ap (relaid c.args.board.now.laid) all
