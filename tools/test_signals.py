@@ -28,6 +28,14 @@ exec sleep 60
 
 
 class Ending(Scripted):
+    @classmethod
+    def setUpClass(cls) -> None:
+        """In the background some signals are ignored, and would be by all that is started here."""
+        super().setUpClass()
+        for ignored in (it for it in CAUGHT if signal.getsignal(it) == signal.SIG_IGN):
+            signal.signal(ignored, signal.SIG_DFL)
+            cls.addClassCleanup(signal.signal, ignored, signal.SIG_IGN)
+
     def setUp(self) -> None:
         super().setUp()
         self.make(self.program, PLAYS)
