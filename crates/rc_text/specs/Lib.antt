@@ -5,3 +5,4 @@ pub mod Finds
 pub mod LineSeen
 pub mod PlaceSeen
 pub mod Gives
+pub mod Choices

@@ -97,18 +97,26 @@ fn number_to(most: u64, bytes: &[u8]) -> Option<(u64, &[u8])>
 {
     match bytes {
         [b'0', rest @ ..] => Some((0, rest)),
-        [first, ..] if is_digit(*first) => digits_to(most, bytes),
+        [first, rest @ ..] if is_digit(*first) => {
+            let n = u64::from(*first - b'0');
+            if n > most {
+                return None;
+            }
+            digits_to(most, n, rest)
+        }
         _ => None,
     }
 }
 
-/// The number of the digits that come first, if it is at most `most`, and the bytes behind them.
-fn digits_to(most: u64, bytes: &[u8]) -> Option<(u64, &[u8])>
+/// The number of the digits that come first, behind those of this one, if it is at most `most`, and the bytes behind
+/// them.
+fn digits_to(most: u64, from: u64, bytes: &[u8]) -> Option<(u64, &[u8])>
     requires small { most < 2 ^ 60 }
-    ensures found { Finds (λ x. (x.0, x.1.now)) result (digits_to most 0 bytes.now) }
+    requires within { from ≤ most }
+    ensures found { Finds (λ x. (x.0, x.1.now)) result (digits_to most from bytes.now) }
     ensures within { IfSome result (λ x. x.0 ≤ most) }
 {
-    let mut n = 0;
+    let mut n = from;
     let mut at = 0;
     while at < bytes.len() && is_digit(bytes[at]) {
         n = n * 10 + u64::from(bytes[at] - b'0');

@@ -1,13 +1,16 @@
 //! The lines of a house text, read.
-ghost use Rattle.rc_play_spec.specs.Lines.{line_of, other_in, opening_in, chosen_in, shuffled_in, done_in, limit_in};
-ghost use Rattle.rc_play_spec.specs.Lines.{scored_in, ranked_in};
+ghost use Rattle.rc_play_spec.specs.Lines.{line_of, other_in, opening_in, chosen_in, told_in, shuffled_in, done_in};
+ghost use Rattle.rc_play_spec.specs.Lines.{limit_in, scored_in, ranked_in};
 ghost use Rattle.rc_play_spec.specs.Fields.{last};
+ghost use Rattle.rc_rules.specs.Record.{pick_seen};
+ghost use Rattle.rc_text.specs.BoundSeen.{option_seen};
+ghost use Rattle.rc_text.specs.Choices.{pick_in, IsFirstChoice};
 ghost use Rattle.rc_text.specs.Finds.{Finds};
-ghost use Rattle.std.specs.Prelude.{◌≡◌, true, IfSome, IsSome};
+ghost use Rattle.std.specs.Prelude.{◌≡◌, ◌<◌, true, length, IfSome, IsSome};
 ghost use Rattle.rc_text.specs.LineSeen.{line_seen, marked_seen, choice_seen, IsTold, IsBare};
 
 use crate::bounds::bounds_in;
-use crate::fields::{counted_number, integer, number};
+use crate::fields::{counted_number, first_line, integer, number};
 use rc_base::limits::{LARGEST_SEED, MOST_ITEMS, MOST_TURNS};
 use rc_rules::{Bounds, Ended, Pick, Score, Standing};
 
@@ -71,14 +74,28 @@ fn chosen_in(named: bool, bytes: &[u8]) -> Option<Line>
     ensures found { Finds marked_seen result (chosen_in named bytes.now) }
     ensures told { named ≡ true → IfSome result IsTold }
 {
-    let (pick, bounds) = choice_in(named, bytes)?;
+    let (pick, rest) = pick_in(bytes)?;
+    let bounds = told_in(named, rest)?;
     Some(Line::Chosen(pick, bounds))
 }
 
-/// The choice that bytes spell, with what its item binds where the text names that.
-pub fn choice_in(named: bool, bytes: &[u8]) -> Option<(Pick, Option<Bounds>)>
-    ensures found { Finds choice_seen result (chosen_in named bytes.now) }
-    ensures told { named ≡ true → IfSome result (λ choice. IsSome choice.1) }
+/// The choice that the first line of bytes spells, with what its item binds where the text names that, and the bytes
+/// behind the line. The line isn't cut first: where its numbers end, little of it is left.
+pub fn first_choice(named: bool, bytes: &[u8]) -> Option<(Pick, Option<Bounds>, &[u8])>
+    ensures found { IfSome result (λ x. IsFirstChoice named bytes.now (choice_seen (x.0, x.1)) x.2.now) }
+    ensures told { named ≡ true → IfSome result (λ x. IsSome x.1) }
+    ensures shorter { IfSome result (λ x. length x.2.now < length bytes.now) }
+{
+    let (pick, rest) = pick_in(bytes)?;
+    let (marks, later) = first_line(rest)?;
+    let bounds = told_in(named, marks)?;
+    Some((pick, bounds, later))
+}
+
+/// The numbers of a choice, and the bytes behind them.
+#[inline(always)]
+fn pick_in(bytes: &[u8]) -> Option<(Pick, &[u8])>
+    ensures { Finds (λ x. (pick_seen x.0, x.1.now)) result (pick_in bytes.now) }
 {
     let (seat, rest) = number(b"choose ", 7, bytes)?;
     let (site, rest) = number(b" ", 63, rest)?;
@@ -90,11 +107,20 @@ pub fn choice_in(named: bool, bytes: &[u8]) -> Option<(Pick, Option<Bounds>)>
         item: item as u16,
         size: size as u16,
     };
+    Some((pick, rest))
+}
+
+/// What a line tells behind the numbers of its choice: what the item binds where the text names that, else nothing.
+#[inline(always)]
+fn told_in(named: bool, bytes: &[u8]) -> Option<Option<Bounds>>
+    ensures found { Finds option_seen result (told_in named bytes.now) }
+    ensures told { named ≡ true → IfSome result (λ bounds. IsSome bounds) }
+{
     if named {
-        let bounds = bounds_in(rest)?;
-        Some((pick, Some(bounds)))
-    } else if rest.is_empty() {
-        Some((pick, None))
+        let bounds = bounds_in(bytes)?;
+        Some(Some(bounds))
+    } else if bytes.is_empty() {
+        Some(None)
     } else {
         None
     }

@@ -12,7 +12,7 @@ ghost use Rattle.rc_text.specs.PlaceSeen.{stand_seen, open_stand, IsFit, StandsF
 
 use crate::fields::first_line;
 use crate::house::{HouseText, NamedText};
-use crate::lines::choice_in;
+use crate::lines::first_choice;
 use crate::places::{Matches, OpenMatch, Progress, take_bytes};
 use rc_deck::Memory;
 use rc_play_spec::{faults_are_first, texts_are_of_lines, texts_are_read};
@@ -236,10 +236,7 @@ fn take_choices<'a>(
 {
     let mut number = from;
     let mut rest = bytes;
-    while let Some((line, later)) = first_line(rest) {
-        let Some((pick, bounds)) = choice_in(named, line) else {
-            return Ok((number, rest));
-        };
+    while let Some((pick, bounds, later)) = first_choice(named, rest) {
         played.choose(pick, bounds)?;
         number += 1;
         rest = later;

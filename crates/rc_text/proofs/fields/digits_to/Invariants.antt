@@ -5,7 +5,7 @@ use Rattle.rc_text.proofs.fields.digits_to.Given as goal
 abbrev pub invariant-loop-at : goal.invariant-loop-at
 invariant-loop-at l =
     record {
-      reads : digits_to l.most l.n (drop l.at l.bytes) ≡ digits_to l.most 0 l.bytes;
+      reads : digits_to l.most l.n (drop l.at l.bytes) ≡ digits_to l.most l.from l.bytes;
       within : l.n ≤ l.most;
       inside : l.at ≤ length l.bytes;
     }

@@ -6,8 +6,8 @@ use Rattle.rc_text.specs.PlaceSeen.{open_stand, IsFit}
 use Rattle.rc_text.proofs.reading.take_choices.Given as goal
 
 -- what is read from here on is what is read from the start
-abbrev pub invariant-loop-line : goal.invariant-loop-line
-invariant-loop-line l =
+abbrev pub invariant-loop-pick : goal.invariant-loop-pick
+invariant-loop-pick l =
     record {
       reads : (before : List Record) (marks : List (List Bound)) →
           read_from l.named l.from (open_stand before marks l.fn.played) (lines_in l.bytes).0 (lines_in l.bytes).1
@@ -17,5 +17,5 @@ invariant-loop-line l =
       fit : l.named ≡ true → IsFit l.fn.played → IsFit l.played;
     }
 
-abbrev pub decreases-loop-line : goal.decreases-loop-line
-decreases-loop-line l = length l.rest
+abbrev pub decreases-loop-pick : goal.decreases-loop-pick
+decreases-loop-pick l = length l.rest
