@@ -1,10 +1,12 @@
 """Tests of how files of cases are read, and of what is asked of a run."""
 
+import io
 import re
 import shutil
 import tempfile
 import unittest
 from collections.abc import Callable
+from contextlib import redirect_stderr, redirect_stdout
 from dataclasses import replace
 from itertools import islice
 from pathlib import Path
@@ -18,7 +20,7 @@ from cases.language import frame_of, read_page
 from cases.notes import NO_LOOKS, any_hits, is_note
 from cases.plays import Play, lines_match, read_play, read_plays
 from cases.rows import Mistake, Row, copied, is_limit, marked, only_last_marker, read_groups, read_rows, unescaped
-from cases.running import ENDING, OF_PLANS, End, fault_case, run
+from cases.running import ENDING, OF_PLANS, Case, End, fault_case, run
 from cases.sheets import read_frames, read_sheets
 from cases.texts import altered, read_texts
 from cases.words import NO_SHEET, USAGE, words_case
@@ -492,6 +494,38 @@ class SideBySide(InFolder):
 
     def test_the_libraries_of_the_program_are_those_that_it_names(self) -> None:
         self.assertEqual(set(side_by_side.LIBRARIES.split()), set(re.findall(r"\brc_\w+", side_by_side.SOURCE.read_text("utf-8"))))
+
+
+class Asked(InFolder):
+    def asked(self, *words: str) -> tuple[int | None, str]:
+        """How `cases/check` ends by these words where it comes to no case, and what it says."""
+        told = io.StringIO()
+        with redirect_stdout(told), redirect_stderr(told), self.assertRaises(SystemExit) as ended:
+            checking.main([*words])
+        return ended.exception.code, told.getvalue()
+
+    def test_help_is_no_run(self) -> None:
+        with patch.object(checking, "build") as build:
+            status, told = self.asked("--help")
+        build.assert_not_called()
+        self.assertEqual(status, 0)
+        self.assertIn("PROGRAM", told)
+
+    def test_a_program_that_is_none(self) -> None:
+        status, told = self.asked(str(self.folder / "none"))
+        self.assertEqual(status, 2)
+        self.assertIn("none can't be run", told)
+
+    def test_another_program_is_run_and_none_is_built(self) -> None:
+        program = self.folder / "program"
+        program.write_text("#!/bin/sh\necho done\n", "utf-8")
+        program.chmod(0o755)
+        case = Case(Row(self.folder / "rows", 1, "row"), ("play",), "", "done", lambda end: end.out == "done\n")
+        with patch.object(checking, "build") as build, patch.object(checking, "read_all", return_value={case.row.file: [case]}):
+            with redirect_stdout(io.StringIO()) as told:
+                status = checking.main([str(program)])
+        build.assert_not_called()
+        self.assertEqual(status, 0, told.getvalue())
 
 
 class Files(unittest.TestCase):

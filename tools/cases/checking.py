@@ -1,9 +1,11 @@
 """Runs all cases, and says what doesn't come out as expected."""
 
+import argparse
 import os
 import sys
 from collections.abc import Iterable, Iterator
 from concurrent.futures import ThreadPoolExecutor
+from dataclasses import replace
 from pathlib import Path
 
 from cases.bench import TRICKS, read_bench
@@ -59,11 +61,23 @@ def failures(cases: Iterable[Case]) -> list[str]:
         return [said for said in pool.map(Case.run, cases) if said]
 
 
-def main() -> int:
+def program_in(words: list[str] | None) -> Path | None:
+    """The program that the words name, if any."""
+    parser = argparse.ArgumentParser("cases/check", description="Runs the cases of this folder, and fails where one doesn't come out.")
+    parser.add_argument("program", nargs="?", type=Path, metavar="PROGRAM", help="one to run in place of the proved one, which is built first")
+    program = parser.parse_args(words).program
+    if program and not os.access(program, os.X_OK):
+        parser.error(f"{program} can't be run")
+    return program and program.resolve()
+
+
+def main(words: list[str] | None = None) -> int:
+    program = program_in(words)
     try:
         cases = read_all()
-        build()
-        failed = failures(case for of_file in cases.values() for case in of_file)
+        if not program:
+            build()
+        failed = failures(replace(case, program=program) for of_file in cases.values() for case in of_file)
     except (Mistake, OSError, UnicodeError) as error:
         print(f"cases/check: {error}", file=sys.stderr)
         return 1
