@@ -1,5 +1,5 @@
 -- Rows of what cards have.
-use Rattle.std.proofs.Common.{◌≡◌, ℕ, zero, suc, ◌+◌, ◌<◌, List, [], ◌∷◌, ◌++◌, length, get_or, take, map, Some, None, slice_get, arith, refl, sym, ap, ◌∙◌, ℤ, pos, ◌+ℤ◌, cond}
+use Rattle.std.proofs.Common.{◌≡◌, ℕ, zero, suc, ◌+◌, ◌<◌, List, [], ◌∷◌, ◌++◌, length, get_or, take, map, Some, None, slice_get, arith, refl, sym, ap, ◌∙◌, pos, ◌+ℤ◌, cond}
 use Rattle.std.specs.List.{fold, range_with_len}
 use Rattle.std.proofs.lemmas.List.{take_more, map-append}
 use Rattle.rc_base.specs.Numbers.{below}

@@ -1,23 +1,39 @@
 -- What names and cards come to.
-use Rattle.std.specs.Prelude.{◌≡◌, ℕ, ◌+◌, ◌&&◌, nat_lt, if◌then◌else◌, length, List, [], ◌∷◌, map, Option, Some, None, ℤ, Vec}
+use Rattle.std.specs.Prelude.{◌≡◌, ℕ, ◌+◌, nat_lt, if◌then◌else◌, length, List, [], ◌∷◌, map}
+use Rattle.std.specs.Prelude.{Option, Some, None, ℤ, Vec}
 use Rattle.std.specs.Global.{Global}
 use Rattle.rc_base.specs.Numbers.{below}
 use Rattle.rc_base.specs.Deck.{Face, Entry, value_at, points_of}
-use Rattle.rc_sheet_spec.specs.Sheet.{Class, Sheet}
+use Rattle.rc_sheet_spec.specs.Sheet.{Class, Sheet, game_class, player_class, team_class}
 use Rattle.rc_sheet_spec.specs.WellFormed.{owner_count}
 use Rattle.rc_play_spec.specs.Owners.{class_eq, classes_in}
 use Rattle.rc_play_spec.specs.Shape.{Shape}
 use Rattle.rc_rules.specs.declared.range.Range.{Range}
 use Rattle.rc_rules.specs.declared.lookup.Lookup.{Lookup}
 
--- the places of a name of a class: the first, and how many there are
+-- the places of a name: the first, and how many owners of each class it has
 pub record Places : Type 0 where
-  pub class : Class
   pub first : ℕ
-  pub count : ℕ
+  pub game : ℕ
+  pub player : ℕ
+  pub team : ℕ
+
+abbrev pub count_of : Class → Places → ℕ
+count_of game_class places = places.game
+count_of player_class places = places.player
+count_of team_class places = places.team
+
+-- those of a name of this class, of so many owners: it has none of another class
+abbrev pub places_of : ℕ → Class → ℕ → Places
+places_of first class count = record {
+  first = first;
+  game = if class_eq class game_class then count else 0;
+  player = if class_eq class player_class then count else 0;
+  team = if class_eq class team_class then count else 0;
+}
 
 abbrev pub range_seen : Range → Places
-range_seen range = record { class = range.class; first = range.first; count = range.count }
+range_seen range = record { first = range.first; game = range.game; player = range.player; team = range.team }
 
 abbrev pub ranges_seen : List Range → List Places
 ranges_seen ranges = map range_seen ranges
@@ -26,13 +42,13 @@ ranges_seen ranges = map range_seen ranges
 abbrev pub ranges_from : Sheet → ℕ → List Class → List Places
 ranges_from sheet first [] = []
 ranges_from sheet first (class ∷ classes) =
-    record { class = class; first = first; count = owner_count sheet class } ∷ ranges_from sheet (first + owner_count sheet class) classes
+    places_of first class (owner_count sheet class) ∷ ranges_from sheet (first + owner_count sheet class) classes
 
 -- an owner's place among those of a name, if there is such a name
 abbrev pub place_in : Class → ℕ → Option Places → Option ℕ
 place_in wanted owner None = None
 place_in wanted owner (Some places) =
-    if class_eq places.class wanted && nat_lt owner places.count then Some (places.first + owner) else None
+    if nat_lt owner (count_of wanted places) then Some (places.first + owner) else None
 
 -- the value of each face for an attribute, and what each face is worth
 abbrev pub value_row : List Face → ℕ → List (Option ℕ)

@@ -9,7 +9,8 @@ ghost use Rattle.rc_sheet_spec.specs.WellFormed.{IsWellFormed, owner_count as pu
 ghost use Rattle.rc_play_spec.specs.Owners.{classes_in};
 ghost use Rattle.rc_play_spec.specs.Shape.{face_at};
 ghost use Rattle.rc_ast.specs.Sheet.{sheet_seen};
-ghost use Rattle.rc_rules.specs.Lookup.{IsLookup, ranges_from, ranges_seen, place_in, range_seen, value_row, worth_row, rows_seen};
+ghost use Rattle.rc_rules.specs.Lookup.{IsLookup, count_of, place_in, places_of, range_seen, ranges_from, ranges_seen};
+ghost use Rattle.rc_rules.specs.Lookup.{rows_seen, value_row, worth_row};
 
 use crate::range::Range;
 use crate::stages::{class_of_stage, owner_count};
@@ -19,21 +20,46 @@ use rc_deck::{Memory, PointMap, attr, points};
 use rc_table::Shape;
 use std::alloc::Global;
 
-// The place of an owner of this class, if the name is of the class and there is such an owner.
+// The places of a name of this class, of so many owners.
+fn range_of(class: Class, first: u16, count: u16) -> Range
+    requires { first ≤ most_locations }
+    ensures { range_seen result ≡ places_of first class count }
+{
+    Range {
+        first,
+        game: if class == Class::Game { count } else { 0 },
+        player: if class == Class::Player { count } else { 0 },
+        team: if class == Class::Team { count } else { 0 },
+    }
+}
+
+// How many owners of this class a name has.
+#[inline(always)]
+fn count_of(range: &Range, class: Class) -> u16
+    ensures { result ≡ count_of class (range_seen range.now) }
+{
+    match class {
+        Class::Game => range.game,
+        Class::Player => range.player,
+        Class::Team => range.team,
+    }
+}
+
+// The place of an owner of this class, if the name has one.
 #[inline(always)]
 fn place_of(range: &Range, wanted: Class, owner: u8) -> Option<u16>
     ensures { result ≡ place_in wanted owner (Some (range_seen range.now)) }
 {
-    if range.class == wanted && u32::from(owner) < range.count {
+    if u16::from(owner) < count_of(range, wanted) {
         Some(range.first + u16::from(owner))
     } else {
         None
     }
 }
 
-// The place of an owner of this class among those of a name, if there is one.
+/// The place of an owner of this class among those of a name, if there is one.
 #[inline(always)]
-fn place_at(ranges: &[Range], name: u16, wanted: Class, owner: u8) -> Option<u16>
+pub fn place_at(ranges: &[Range], name: u16, wanted: Class, owner: u8) -> Option<u16>
     ensures { result ≡ place_in wanted owner (slice_get (ranges_seen ranges.now) name) }
 {
     match ranges.get(name as usize) {
@@ -66,6 +92,22 @@ impl Drop for Lookup {
 }
 
 impl Lookup {
+    /// The places of the names of locations.
+    #[inline(always)]
+    pub fn locations(&self) -> &[Range]
+        ensures { result.now ≡ self.now.locs.items }
+    {
+        &self.locs
+    }
+
+    /// The places of the names of numbers.
+    #[inline(always)]
+    pub fn numbers(&self) -> &[Range]
+        ensures { result.now ≡ self.now.nums.items }
+    {
+        &self.nums
+    }
+
     /// The location that an owner of this class has of a name, if there is one.
     #[inline(always)]
     pub fn location(&self, name: u16, class: Class, owner: u8) -> Option<u16>
@@ -148,11 +190,7 @@ fn loc_ranges(alloc: Global, sheet: &Sheet) -> Result<Vec<Range>, Memory>
     for place in 0..sheet.locs.len() {
         let class = sheet.locs[place].class;
         let count = owner_count(sheet, class);
-        list.push(Range {
-            class,
-            first: first as u16,
-            count: count as u32,
-        })?;
+        list.push(range_of(class, first as u16, count as u16))?;
         first += count;
     }
     Ok(list)
@@ -169,11 +207,7 @@ fn num_ranges(alloc: Global, sheet: &Sheet) -> Result<Vec<Range>, Memory>
     for place in 0..sheet.nums.len() {
         let class = sheet.nums[place].class;
         let count = owner_count(sheet, class);
-        list.push(Range {
-            class,
-            first: first as u16,
-            count: count as u32,
-        })?;
+        list.push(range_of(class, first as u16, count as u16))?;
         first += count;
     }
     Ok(list)

@@ -1,4 +1,4 @@
-use Rattle.std.proofs.Common.{◌<◌, length, map, ap, ◌∙◌, arith}
+use Rattle.std.proofs.Common.{◌<◌, ◌++◌, ◌∷◌, [], length, map, ap, ◌∙◌, arith}
 use Rattle.std.proofs.lemmas.List.{length-map, map-append}
 use Rattle.rc_sheet_spec.specs.Sheet.{LocName}
 use Rattle.rc_sheet_spec.specs.WellFormed.{owner_count}
@@ -43,5 +43,7 @@ loop-place-preserved c =
       told =
           ranges_more sheet (ranges_seen c.loop-place.list.items) _ (ranges_from sheet 0 classes) classes place first c.owner_count-count.result x.class
           (omega (arith, lt, length-map names loc_name_seen, length-map sheet.locs (λ (name : LocName). name.class))) here c.owner_count-count.ensures
-          (ap ranges_seen c.in_ok-push.ensures.items ∙ map-append range_seen c.loop-place.list.items _) c.loop-place.invariant.told;
+          (ap ranges_seen c.in_ok-push.ensures.items ∙ map-append range_seen c.loop-place.list.items (c.range_of.result ∷ [])
+          ∙ ap (λ range. ranges_seen c.loop-place.list.items ++ range ∷ []) c.range_of.ensures)
+          c.loop-place.invariant.told;
     }

@@ -1,10 +1,10 @@
 use Rattle.std.proofs.Common.{map, slice_get, ap, ◌∙◌}
 use Rattle.rc_sheet_spec.specs.Sheet.{LocName}
 use Rattle.rc_sheet_spec.specs.Naming.{class_of}
-use Rattle.rc_play_spec.specs.Owners.{place_among}
+use Rattle.rc_play_spec.specs.Value.{who_value}
 use Rattle.rc_ast.specs.Names.{loc_seen}
 use Rattle.rc_ast.specs.Sheet.{sheet_seen}
-use Rattle.rc_rules.specs.Lookup.{place_in}
+use Rattle.rc_rules.specs.Lookup.{place_in, ranges_seen}
 use Rattle.rc_value.specs.Scene.{scene_seen}
 use Rattle.rc_rules.proofs.Ranges.{place_is}
 use Rattle.rc_value.proofs.lookup.loc_at.Goals as goal
@@ -12,11 +12,12 @@ use Rattle.rc_value.proofs.lookup.loc_at.Goals as goal
 pub returns : goal.returns
 unfolding scene_seen
 returns c =
-    let sheet = sheet_seen c.args.scene.now.sheet.now in
+    let scene = c.args.scene.now in
+    let sheet = sheet_seen scene.sheet.now in
+    let loc = loc_seen c.args.loc.now in
+    let owner = who_value (scene_seen scene).known c.args.scope.now loc.who in
     let classes = map (λ (name : LocName). name.class) sheet.locs in
-    let name = c.args.loc.now.name in
-    c.location.ensures
-    ∙ ap (λ xs. place_in c.class_of.result c.who_of-owner.result (slice_get xs name)) c.args.scene.now.looked_up.locs
-    ∙ place_is sheet c.class_of.result classes name c.who_of-owner.result
-    ∙ ap (λ wanted. place_among sheet wanted classes name c.who_of-owner.result) c.class_of.ensures
-    ∙ ap (place_among sheet (class_of (loc_seen c.args.loc.now).who) classes name) c.who_of-owner.ensures
+    c.place_of.ensures
+    ∙ ap (λ ranges. place_in (class_of loc.who) owner (slice_get (ranges_seen ranges) loc.name)) c.locations.ensures
+    ∙ ap (λ places. place_in (class_of loc.who) owner (slice_get places loc.name)) scene.looked_up.locs
+    ∙ place_is sheet (class_of loc.who) classes loc.name owner
