@@ -13,8 +13,9 @@ use Rattle.rc_play_spec.specs.RedrawLaws.{IsViewOfSound}
 use Rattle.rc_play_spec.proofs.Filled.{mixed-length}
 use Rattle.rc_play_spec.proofs.Redrawn.{redrawn-sound}
 use Rattle.rc_table.specs.Refilled.{CanRefill, lists_refilled, refilled}
-use Rattle.rc_redraw.specs.Hiding.{hiding_from, pattern_at, pattern_of, patterns, blended, blanks}
+use Rattle.rc_redraw.specs.Hiding.{hiding_from, pattern_at, pattern_of, patterns, blended, spread, blanks}
 use Rattle.rc_redraw.specs.Redraws.{Redrawn, Keeps}
+use Rattle.rc_redraw.proofs.Blends.{spread_is, blanks-append}
 
 record Refills (locs ids : List ℕ) (old new : List (List ℕ)) : Type 0 where
   can : CanRefill locs ids old
@@ -145,11 +146,6 @@ pattern-blanks (Some f ∷ os) [] l = absurd (omega (arith, l))
 pattern-blanks (Some f ∷ os) (id ∷ seen) l = pattern-blanks os seen (omega (arith, l))
 pattern-blanks (None ∷ os) seen l = ap suc (pattern-blanks os seen l)
 
-blanks-append : (ps qs : List (Option ℕ)) → blanks (ps ++ qs) ≡ blanks ps + blanks qs
-blanks-append [] qs = omega arith
-blanks-append (Some id ∷ ps) qs = blanks-append ps qs
-blanks-append (None ∷ ps) qs = let h = blanks-append ps qs in omega (arith, h)
-
 partly-blanks : (os : List (Option ℕ)) (seen : List ℕ) → length (known_faces os) ≤ length seen → (b : Bool) → nat_lt 0 (unknown os) ≡ b →
     blanks (if b then pattern_at os seen else []) ≡ unknown os
 partly-blanks os seen l true e = pattern-blanks os seen l
@@ -203,12 +199,13 @@ ascending_sound shape view of =
 pub dealt : (r : Redrawn) (key hidden : List ℕ) (pattern : List (Option ℕ)) (room rest order locs ids content : List ℕ) → Keeps r hidden pattern room rest order →
     length (seen_faces (mems_of r.shape.places) r.view.sights) ≤ length (seen_of r.shape r.view) →
     hidden_count (mems_of r.shape.places) r.view.sights ≡ length (unused r.shape (seen_of r.shape r.view)) →
-    locs ≡ hidden → ids ≡ permuted key rest → length ids ≡ length rest → content ≡ blended pattern ids →
+    locs ≡ hidden → ids ≡ permuted key rest → length ids ≡ length rest → content ≡ spread pattern ids →
     CanRefill locs content r.table.lists × (refilled locs content r.table ≡ redraw r.shape r.view key)
 dealt r key hidden pattern room rest order locs ids content kept known count locs_are ids_are long content_is =
     let places = locs_are ∙ kept.hiding in
-    let all = content_is ∙ ap (λ p. blended p ids) kept.known in
     let each = ap length kept.rest in
+    let blank = patterns-blanks (mems_of r.shape.places) r.view.sights (seen_of r.shape r.view) known in
+    let all = content_is ∙ spread_is pattern _ ids kept.known (omega (arith, blank, count, each, long)) in
     let enough : hidden_count (mems_of r.shape.places) r.view.sights ≤ length order = omega (arith, count, each, kept.each) in
     let enough' : hidden_count (mems_of r.shape.places) r.view.sights ≤ length ids = omega (arith, count, each, long) in (
       subst (λ (table : Table). CanRefill locs content table.lists) (sym kept.is)

@@ -1,7 +1,7 @@
 -- Which locations hide cards, and what is known of their places.
-use Rattle.std.specs.Prelude.{ℕ, suc, ◌+◌, Bool, true, false, nat_lt, if◌then◌else◌, List, [], ◌∷◌, ◌++◌, length, drop, Option, Some, None}
+use Rattle.std.specs.Prelude.{◌≡◌, ◌⊎◌, ℕ, suc, ◌+◌, Bool, true, false, nat_lt, if◌then◌else◌, List, [], ◌∷◌, ◌++◌, length, drop, Option, Some, None}
 use Rattle.rc_play_spec.specs.View.{Sight, with_faces, partly}
-use Rattle.rc_play_spec.specs.Redraw.{hidden_at, faces_at, unknown}
+use Rattle.rc_play_spec.specs.Redraw.{hidden_at, faces_at, known_faces, unknown}
 
 -- those with places that aren't known, of the locations from one on
 abbrev pub hiding_from : ℕ → List Bool → List Sight → List ℕ
@@ -36,8 +36,22 @@ blended (Some id ∷ ps) hidden = id ∷ blended ps hidden
 blended (None ∷ ps) [] = []
 blended (None ∷ ps) (id ∷ hidden) = id ∷ blended ps hidden
 
+-- The same of a pattern that is kept only where some place is known. Without one the ids fill all places.
+abbrev pub spread : List (Option ℕ) → List ℕ → List ℕ
+spread [] ids = ids
+spread (p ∷ ps) ids = blended (p ∷ ps) ids
+
 -- how many other places a pattern has
 abbrev pub blanks : List (Option ℕ) → ℕ
 blanks [] = 0
 blanks (Some id ∷ ps) = blanks ps
 blanks (None ∷ ps) = suc (blanks ps)
+
+-- whether a place is known of a location that isn't seen
+abbrev pub knows : Sight → Bool
+knows (with_faces fs) = false
+knows (partly os) = nat_lt 0 (length (known_faces os))
+
+-- a pattern is kept, or nothing of one in which no place is known
+abbrev pub IsKept : List (Option ℕ) → List (Option ℕ) → Type 0
+IsKept kept pattern = (kept ≡ pattern) ⊎ ((kept ≡ []) × (blanks pattern ≡ length pattern))

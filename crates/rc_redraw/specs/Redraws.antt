@@ -6,7 +6,7 @@ use Rattle.rc_play_spec.specs.Table.{Table}
 use Rattle.rc_play_spec.specs.View.{View}
 use Rattle.rc_play_spec.specs.Redraw.{mems_of, seen_of, unused as unused_ids, redrawn, redraw}
 use Rattle.rc_play_spec.specs.RedrawLaws.{IsViewOfSound}
-use Rattle.rc_redraw.specs.Hiding.{hiding_from, patterns}
+use Rattle.rc_redraw.specs.Hiding.{hiding_from, patterns, IsKept}
 
 -- a view of a table of a shape, and a table that looks like it
 pub record Redrawn : Type 0 where
@@ -18,12 +18,12 @@ pub record Redrawn : Type 0 where
 abbrev pub redealt : List ℕ → Redrawn → Redrawn
 redealt key r = record { shape = r.shape; view = r.view; table = redraw r.shape r.view key }
 
--- The locations that hide cards, what is known of their places with room for all that they hold, the ids for the other places in ascending
--- order, and as many in that order in which the table has them.
+-- The locations that hide cards, what is known of their places, if anything is, with room for all that they hold then,
+-- the ids for the other places in ascending order, and as many in that order in which the table has them.
 pub record Keeps (r : Redrawn) (hidden : List ℕ) (pattern : List (Option ℕ)) (content unused order : List ℕ) : Type 0 where
   pub of : IsViewOfSound r.shape r.view
   pub hiding : hidden ≡ hiding_from 0 (mems_of r.shape.places) r.view.sights
-  pub known : pattern ≡ patterns (mems_of r.shape.places) r.view.sights (seen_of r.shape r.view)
+  pub known : IsKept pattern (patterns (mems_of r.shape.places) r.view.sights (seen_of r.shape r.view))
   pub long : length content ≡ length pattern
   pub rest : unused ≡ unused_ids r.shape (seen_of r.shape r.view)
   pub few : length unused ≤ most_cards

@@ -1,10 +1,11 @@
 //! What each location of a redrawn table holds.
 ghost use Rattle.std.specs.Prelude.{◌≡◌, ◌≤◌, ◌++◌, length, map, IfOk, OnOk};
+ghost use Rattle.std.specs.List.{list_any};
 ghost use Rattle.rc_play_spec.specs.Redraw.{mems_of, faces_at, hidden_at, ids_at, seen_faces, hidden_count, filled as filled_by};
-ghost use Rattle.rc_redraw.specs.Hiding.{hiding_from, pattern_of, patterns as patterns_of};
+ghost use Rattle.rc_redraw.specs.Hiding.{hiding_from, knows, pattern_of, patterns as patterns_of, IsKept};
 ghost use Rattle.rc_view.specs.Seen.{sight_seen};
 
-use crate::places::{count_unknown, mix, push_pattern};
+use crate::places::{count_known, count_unknown, mix, push_pattern};
 use crate::seen::known_places;
 use rc_deck::Memory;
 use rc_table::Shape;
@@ -117,8 +118,49 @@ fn push_places(
     }
 }
 
-/// What is known of the places of these locations, one location behind the other: the ids that known places take.
-pub(crate) fn patterns(
+// Whether a place of a location that the seat doesn't see is known.
+fn knows_some(sight: &Sight) -> bool
+    ensures { result ≡ knows (sight_seen sight.now) }
+{
+    match sight {
+        Sight::Faces(_numbers) => false,
+        Sight::Partly(numbers) => count_known(numbers) > 0,
+    }
+}
+
+// Whether a place of some such location is known.
+fn know_some(sights: &[Sight]) -> bool
+    ensures { result ≡ list_any (λ sight. knows (sight_seen sight)) sights.now }
+{
+    for at in 0..sights.len() {
+        if knows_some(&sights[at]) {
+            return true;
+        }
+    }
+    false
+}
+
+/// What is known of the places of locations that hide cards, or nothing where no card is known that isn't seen.
+pub(crate) fn kept_pattern(
+    alloc: Global,
+    shape: &Shape,
+    sights: &[Sight],
+    seen: &[u16],
+) -> Result<Vec<Option<u16>>, Memory>
+    requires each { length sights.now ≡ length shape.now.places }
+    requires seen { length (seen_faces (mems_of shape.now.places) (map sight_seen sights.now)) ≡ length seen.now }
+    ensures { IfOk result (λ pattern. IsKept pattern.items
+        (patterns_of (mems_of shape.now.places) (map sight_seen sights.now) seen.now)) }
+{
+    if know_some(sights) {
+        Ok(patterns(alloc, shape, sights, seen)?)
+    } else {
+        Ok(Vec::new(alloc))
+    }
+}
+
+// What is known of the places of these locations, one location behind the other: the ids that known places take.
+fn patterns(
     alloc: Global,
     shape: &Shape,
     sights: &[Sight],

@@ -95,23 +95,8 @@ pub(crate) fn push_pattern(
     Ok(())
 }
 
-/// Writes what a pattern becomes with these ids in its other places. Where no place is known it becomes the ids.
-#[tactic(auto, using(crate::proofs::Blends::all_blank))]
+/// Writes what a pattern becomes with these ids in its other places.
 pub(crate) fn blend(content: &mut [u16], pattern: &[Option<u16>], hidden: &[u16])
-    requires each { length content.old ≡ length pattern.now }
-    requires exact { blanks pattern.now ≡ length hidden.now }
-    ensures blended { content.new ≡ blended pattern.now hidden.now }
-    ensures each { length content.new ≡ length content.old }
-{
-    if hidden.len() == pattern.len() {
-        content.copy_from_slice(hidden);
-    } else {
-        blend_known(content, pattern, hidden);
-    }
-}
-
-// The same, place by place.
-fn blend_known(content: &mut [u16], pattern: &[Option<u16>], hidden: &[u16])
     requires each { length content.old ≡ length pattern.now }
     requires enough { blanks pattern.now ≤ length hidden.now }
     ensures blended { content.new ≡ blended pattern.now hidden.now }

@@ -1,15 +1,18 @@
 //! The tables that a view and keys give.
-ghost use Rattle.std.specs.Prelude.{◌≡◌, ◌≤◌, length, IfOk};
+ghost use Rattle.std.specs.Prelude.{◌≡◌, ◌<◌, ◌≤◌, length, IfOk};
 ghost use Rattle.rc_base.specs.Limits.{most_cards};
 ghost use Rattle.rc_play_spec.specs.Draws.{permuted};
 ghost use Rattle.rc_play_spec.specs.Redraw.{redraw as redraw_of};
 ghost use Rattle.rc_play_spec.specs.RedrawLaws.{IsViewOfSound};
 ghost use Rattle.rc_play_spec.specs.Table.{IsSound};
 ghost use Rattle.rc_play_spec.specs.View.{view_of};
+ghost use Rattle.rc_table.specs.Laid.{relaid};
+ghost use Rattle.rc_table.specs.Refilled.{CanRefill, refilled};
+ghost use Rattle.rc_redraw.specs.Hiding.{blanks, spread};
 ghost use Rattle.rc_redraw.specs.Redraws.{redealt};
 ghost use Rattle.rc_view.specs.Seen.{view_seen};
 
-use crate::filling::{hiding_locations, patterns};
+use crate::filling::{hiding_locations, kept_pattern};
 use crate::layout::{Layout, layout_of};
 use crate::marks::marks_known;
 use crate::places::blend;
@@ -33,9 +36,9 @@ pub struct Redraws<'v> {
     table: Table,
     // the locations that hide cards
     hidden: Vec<u16>,
-    // the ids at their places that are known
+    // the ids at their places that are known, or nothing where none is
     pattern: Vec<Option<u16>>,
-    // and all that they hold, where some are known
+    // and room for all that they hold, where some are known
     content: Vec<u16>,
     // the other ids in ascending order
     unused: Vec<u16>,
@@ -82,7 +85,7 @@ impl<'v> Redraws<'v> {
         let mut table = Table::new(alloc, shape)?;
         table.lay(&lists, &view.numbers, &marks);
         let hidden = hiding_locations(alloc, shape, &view.sights)?;
-        let pattern = patterns(alloc, shape, &view.sights, &seen)?;
+        let pattern = kept_pattern(alloc, shape, &view.sights, &seen)?;
         let content = vec![in alloc; 0; pattern.len()]?;
         let order = Vec::from_slice(alloc, &unused)?;
         Ok(Redraws {
@@ -109,8 +112,13 @@ impl<'v> Redraws<'v> {
         redrawn_tables_keep_the_view();
         seen_places_take_the_smallest();
         shuffle(&mut self.order, &self.unused, key);
-        blend(&mut self.content, &self.pattern, &self.order);
-        self.table.refill(&self.hidden, &self.content);
+        refill(
+            &mut self.table,
+            &self.hidden,
+            &self.pattern,
+            &mut self.content,
+            &self.order,
+        );
     }
 
     /// The table of the last key, or before the first one a table that looks like the view.
@@ -126,6 +134,29 @@ impl<'v> Redraws<'v> {
     {
         let Redraws { table, .. } = self;
         table
+    }
+}
+
+// Writes these ids into the places of these locations that aren't known, with room for all that the locations hold.
+fn refill(
+    table: &mut Table,
+    locs: &[u16],
+    pattern: &[Option<u16>],
+    content: &mut [u16],
+    ids: &[u16],
+)
+    requires each { length content.old ≡ length pattern.now }
+    requires exact { 0 < length pattern.now → blanks pattern.now ≡ length ids.now }
+    requires enough { CanRefill locs.now (spread pattern.now ids.now) table.old.table.lists }
+    requires sound { IsSound table.old.shape (refilled locs.now (spread pattern.now ids.now) table.old.table) }
+    ensures refilled { table.new ≡ relaid table.old (refilled locs.now (spread pattern.now ids.now) table.old.table) }
+    ensures each { length content.new ≡ length content.old }
+{
+    if pattern.is_empty() {
+        table.refill(locs, ids);
+    } else {
+        blend(content, pattern, ids);
+        table.refill(locs, content);
     }
 }
 

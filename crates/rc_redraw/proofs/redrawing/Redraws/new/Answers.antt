@@ -8,7 +8,7 @@ use Rattle.rc_table.specs.Laid.{Laid}
 use Rattle.rc_view.specs.Seen.{sight_seen, view_seen}
 use Rattle.rc_view.specs.declared.sight.Sight.{Sight}
 use Rattle.rc_table.specs.Marks.{seats_in}
-use Rattle.rc_redraw.specs.Hiding.{hiding_from, patterns}
+use Rattle.rc_redraw.specs.Hiding.{hiding_from, patterns, IsKept}
 use Rattle.rc_redraw.proofs.Anew.{ascending_sound}
 use Rattle.rc_play_spec.proofs.Counting.{same, passing-is}
 use Rattle.rc_play_spec.proofs.Ids.{seen_ids-within}
@@ -102,13 +102,13 @@ hiding_locations-requires c =
     ap length c.deref-11.ensures.value ∙ sym (length-map c.args.view.now.sights.items sight_seen)
     ∙ each_seen c.args.shape.now.value (view_seen c.args.view.now) c.requires ∙ ap (λ (s : Shape). length s.places) (sym c.deref-10.ensures)
 
-pub patterns-requires-clause-each : goal.patterns-requires-clause-each
-patterns-requires-clause-each c =
+pub kept_pattern-requires-clause-each : goal.kept_pattern-requires-clause-each
+kept_pattern-requires-clause-each c =
     ap length c.deref-13.ensures.value ∙ sym (length-map c.args.view.now.sights.items sight_seen)
     ∙ each_seen c.args.shape.now.value (view_seen c.args.view.now) c.requires ∙ ap (λ (s : Shape). length s.places) (sym c.deref-12.ensures)
 
-pub patterns-requires-clause-seen : goal.patterns-requires-clause-seen
-patterns-requires-clause-seen c =
+pub kept_pattern-requires-clause-seen : goal.kept_pattern-requires-clause-seen
+kept_pattern-requires-clause-seen c =
     let shape = c.args.shape.now.value in
     let view = view_seen c.args.view.now in
     let ids : Shape → List Sight → List ℕ = λ s x. seen_ids s [] (seen_faces (mems_of s.places) (map sight_seen x)) in
@@ -150,9 +150,9 @@ invariant_of-result c =
     (record {
       of = c.requires;
       hiding = c.in_ok-hidden.ensures ∙ ap₂ (λ (s : Shape) x. hiding_from 0 (mems_of s.places) (map sight_seen x)) c.deref-10.ensures c.deref-11.ensures.value;
-      known = c.in_ok-pattern.ensures
-          ∙ ap₂ (λ (s : Shape) x. patterns (mems_of s.places) (map sight_seen x) c.deref-14.result.now) c.deref-12.ensures c.deref-13.ensures.value
-          ∙ ap (patterns (mems_of shape.places) view.sights) seen';
+      known = subst (IsKept c.in_ok-pattern.pattern.items)
+          (ap₂ (λ (s : Shape) x. patterns (mems_of s.places) (map sight_seen x) c.deref-14.result.now) c.deref-12.ensures c.deref-13.ensures.value
+          ∙ ap (patterns (mems_of shape.places) view.sights) seen') c.in_ok-pattern.ensures;
       long = long;
       rest = unused_is;
       few = c.in_ok-lists.ensures.few;

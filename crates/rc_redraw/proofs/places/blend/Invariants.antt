@@ -1,6 +1,6 @@
 use Rattle.std.proofs.Common.{◌≡◌, ◌+◌, ◌++◌, ◌≤◌, length, take, drop}
 use Rattle.rc_redraw.specs.Hiding.{blended, blanks}
-use Rattle.rc_redraw.proofs.places.blend_known.Given as goal
+use Rattle.rc_redraw.proofs.places.blend.Given as goal
 
 abbrev pub invariant-loop-at : goal.invariant-loop-at
 invariant-loop-at l =
