@@ -1,10 +1,9 @@
 -- Groups of decks by their parts.
 use Rattle.std.proofs.Common.{◌≡◌, ℕ, ◌<◌, ◌≤◌, ◌*◌, List, [], ◌∷◌, ◌++◌, length, get_or, refl, sym, ap, ◌∙◌, arith}
-use Rattle.std.specs.Prelude.{Vec}
-use Rattle.std.specs.Global.{Global}
 use Rattle.rc_base.specs.Tree.{Tree, Trees, nil, cons, word, list}
-use Rattle.rc_form.specs.Form.{tree_of, trees_of, packed}
+use Rattle.rc_form.specs.Form.{tree_of, trees_of, trees_in, packed}
 use Rattle.rc_form.specs.declared.form.Form.{Form}
+use Rattle.rc_form.specs.declared.form.Parts.{Parts}
 use Rattle.rc_form.specs.declared.form.Form.TheVariants.{Atom as AtomOf, List as ListOf}
 use Rattle.rc_form.specs.declared.form.Span.{Span}
 use Rattle.rc_form.proofs.FormLemmas.{tree_of_atom, tree_of_list}
@@ -38,15 +37,15 @@ plain_attributes (word bytes' start end) bytes from' to' from to = refl
 plain_attributes (list parts start end) bytes from' to' from to = refl
 
 -- the tree of a list, and of a list of two
-pub list_seen : (form : Form) (items : Vec Form Global) (span : Span) (forms : List Form) → form ≡ ListOf items span → forms
-    ≡ items.items
+pub list_seen : (form : Form) (items : Parts) (span : Span) (forms : List Form) → form ≡ ListOf items span → trees_of forms
+    ≡ trees_in items
     → tree_of form ≡ list (packed (trees_of forms)) span.from span.to
 list_seen form items span forms is same = tree_of_list form items span is
-    ∙ ap (λ parts. list (packed (trees_of parts)) span.from span.to) (sym same)
+    ∙ ap (λ trees. list (packed trees) span.from span.to) (sym same)
 
-pub pair_seen : (form : Form) (items : Vec Form Global) (span : Span) (forms : List Form) (first second : Form) → form
+pub pair_seen : (form : Form) (items : Parts) (span : Span) (forms : List Form) (first second : Form) → form
     ≡ ListOf items span
-    → forms ≡ items.items → 2 ≤ length forms → length forms < 3 → first ≡ get_or forms 0 first → second ≡ get_or forms 1 second
+    → trees_of forms ≡ trees_in items → 2 ≤ length forms → length forms < 3 → first ≡ get_or forms 0 first → second ≡ get_or forms 1 second
     → tree_of form ≡ list (cons (tree_of first) (cons (tree_of second) nil)) span.from span.to
 pair_seen form items span forms first second is same some few is' is'' =
     list_seen form items span forms is same
@@ -67,7 +66,7 @@ none_of_long (a ∷ b ∷ []) from to lt = absurd (omega (arith, lt))
 none_of_long (a ∷ b ∷ c ∷ forms) from to lt = long_attributes (tree_of a) (tree_of b) (tree_of c)
     (packed (trees_of forms)) from to
 
-pub none_of_lists : (first : Form) (items : Vec Form Global) (span : Span) (second : Form) (from to : ℕ) → first
+pub none_of_lists : (first : Form) (items : Parts) (span : Span) (second : Form) (from to : ℕ) → first
     ≡ ListOf items span
     → attributes_of (list (cons (tree_of first) (cons (tree_of second) nil)) from to) ≡ []
 none_of_lists first items span second from to is =
@@ -80,11 +79,11 @@ none_of_words first second bytes span from to is =
     ∙ plain_attributes (tree_of first) bytes span.from span.to from to
 
 -- the attributes of a group
-pub some_attributes : (first second : Form) (bytes : List ℕ) (span : Span) (items : Vec Form Global) (span' : Span) (from to : ℕ)
+pub some_attributes : (first second : Form) (bytes : List ℕ) (span : Span) (items : Parts) (span' : Span) (from to : ℕ)
     → first ≡ AtomOf bytes span
     → second ≡ ListOf items span'
     → attributes_of (list (cons (tree_of first) (cons (tree_of second) nil)) from to)
-    ≡ bytes ∷ attributes_below (packed (trees_of items.items))
+    ≡ bytes ∷ attributes_below (packed (trees_in items))
 some_attributes first second bytes span items span' from to is is' =
     ap (λ tree. attributes_of (list (cons tree (cons (tree_of second) nil)) from to)) (tree_of_atom first bytes span is)
     ∙ ap (λ tree. attributes_of (list (cons (word bytes span.from span.to) (cons tree nil)) from to))

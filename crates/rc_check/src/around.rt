@@ -241,8 +241,8 @@ fn sort_over(part: Option<&Form>) -> Sort
 {
     match part {
         Some(Form::Atom { word, .. }) if is_word(Keyword::Player, word.bytes()) => Sort::Player,
-        Some(Form::List { items, .. }) if rule_of(Symbol::Domain, items) == Some(Rule::Partition) =>
-            { Sort::Group }
+        Some(Form::List { items, .. })
+            if rule_of(Symbol::Domain, items.as_slice()) == Some(Rule::Partition) => { Sort::Group }
         _ => Sort::Card,
     }
 }

@@ -16,7 +16,7 @@ pub fn faces_of(deck: Option<&Form>) -> u32
     ensures { result ≡ min (names.faces_of (part_seen deck.entry)) TOO_MANY }
 {
     match deck {
-        Some(Form::List { items, .. }) => face_count(items),
+        Some(Form::List { items, .. }) => face_count(items.as_slice()),
         Some(Form::Atom { .. }) => 0,
         None => face_count(&[]),
     }
@@ -46,7 +46,7 @@ fn group_faces(group: &Form) -> u32
         return 1;
     };
     match branches {
-        Form::List { items, .. } => branch_count(items),
+        Form::List { items, .. } => branch_count(items.as_slice()),
         Form::Atom { .. } => 1,
     }
 }
@@ -70,7 +70,7 @@ fn branch_faces(branch: &Form) -> u32
 {
     match branch {
         Form::Atom { .. } => 1,
-        Form::List { items, .. } => face_count(items),
+        Form::List { items, .. } => face_count(items.as_slice()),
     }
 }
 

@@ -82,7 +82,7 @@ impl<'a> WordList<'a> {
             return Ok(());
         };
         self.push(word.bytes())?;
-        self.push_inner_attributes(items)
+        self.push_inner_attributes(items.as_slice())
     }
 
     /// Takes the attributes of the groups in these branches.
@@ -106,7 +106,7 @@ impl<'a> WordList<'a> {
     {
         match branch {
             Form::Atom { .. } => Ok(()),
-            Form::List { items, .. } => self.push_all_attributes(items),
+            Form::List { items, .. } => self.push_all_attributes(items.as_slice()),
         }
     }
 

@@ -48,7 +48,9 @@ pub fn class_at(part: Option<&Form>) -> Class
         Some(Form::Atom { word, .. }) if is_word(Keyword::Game, word.bytes()) => Class::Game,
         Some(Form::Atom { .. }) => Class::Player,
         Some(Form::List { items, .. })
-            if rule_of(Symbol::Owner, items) == Some(Rule::CurrentPlayer) => { Class::Player }
+            if rule_of(Symbol::Owner, items.as_slice()) == Some(Rule::CurrentPlayer) => {
+            Class::Player
+        }
         _ => Class::Team,
     }
 }

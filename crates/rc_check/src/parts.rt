@@ -77,7 +77,7 @@ fn is_in_line(player: u64, line: &[Form]) -> bool
 {
     for team in line {
         if let Form::List { items, .. } = team {
-            if is_in_team(player, items) {
+            if is_in_team(player, items.as_slice()) {
                 return true;
             }
         }

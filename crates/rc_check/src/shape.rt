@@ -42,7 +42,7 @@ fn check_form(place: Symbol, form: &Form) -> Result<(), SheetFault>
             }),
             None => Ok(()),
         },
-        Form::List { items, span } => check_list(place, items, *span),
+        Form::List { items, span } => check_list(place, items.as_slice(), *span),
     }
 }
 
@@ -125,7 +125,7 @@ fn names_players(line: &Form) -> bool
     let Form::List { items, .. } = line else {
         return false;
     };
-    let Some((head, others)) = items.split_first() else {
+    let Some((head, others)) = items.as_slice().split_first() else {
         return false;
     };
     is_form_word(Keyword::Create, head) && is_told(Some(Keyword::Players), others)

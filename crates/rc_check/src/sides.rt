@@ -122,7 +122,7 @@ fn side_of(around: &Around<'_>, part: Option<&Form>) -> Option<SideSort>
             side_of_sort(around.sort_of(word.bytes()))
         }
         Some(Form::Atom { .. }) => Some(SideSort::Number),
-        Some(Form::List { items, .. }) => side_of_form(rule_of(Symbol::Side, items)?),
+        Some(Form::List { items, .. }) => side_of_form(rule_of(Symbol::Side, items.as_slice())?),
         None => None,
     }
 }

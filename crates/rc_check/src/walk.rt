@@ -58,7 +58,7 @@ impl<'a> Walk<'a> {
     {
         match part {
             Form::Atom { word, span } => self.atom(whole, at, word, span.from),
-            Form::List { items, span } => self.list(whole, at, items, span.from),
+            Form::List { items, span } => self.list(whole, at, items.as_slice(), span.from),
         }
     }
 

@@ -102,7 +102,7 @@ impl<'a> Whole<'a> {
     {
         match form {
             Form::Atom { word, .. } => self.learn_atom(role, word.bytes()),
-            Form::List { items, .. } => self.learn_list(place, role, items),
+            Form::List { items, .. } => self.learn_list(place, role, items.as_slice()),
         }
     }
 

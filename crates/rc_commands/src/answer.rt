@@ -26,6 +26,7 @@ use crate::status::SourceKind;
 use crate::task::Task;
 use crate::transcript::{Judging, judged_answer};
 use crate::watching::watched_answer;
+use bumpalo::Bump;
 use rc_deck::Memory;
 use rc_flow::Checked;
 use rc_form::{FormFail, FormFault, Forms, read_forms};
@@ -66,7 +67,8 @@ pub fn prepare(alloc: Global, task: Task, source: &[u8]) -> Result<Prepared, Mem
     // It is the command's answer to these bytes, or the sheet and the plan whose matches are to be played for it.
     ensures { IfOk result (IsPrepared task source.now) }
 {
-    match read_forms(alloc, source, task.wanted_lists()) {
+    let arena = Bump::new(alloc);
+    match read_forms(&arena, source, task.wanted_lists()) {
         Ok(forms) => prepare_forms(alloc, task, source, &forms),
         Err(FormFail::Fault(form_fault)) => Ok(Prepared::Answered(fault_of(form_fault))),
         Err(FormFail::Memory) => Err(Memory),

@@ -13,6 +13,7 @@ ghost use Rattle.rc_commands.specs.Answer.{IsGame};
 
 use crate::accepting::{SourceFail, accept};
 use crate::answer::Game;
+use bumpalo::Bump;
 use rc_deck::Memory;
 use rc_flow::Checked;
 use rc_form::{FormFail, Forms, read_forms};
@@ -42,7 +43,8 @@ fn trick_game(alloc: Global) -> Result<Checked, Memory>
     ensures players { IfOk result (λ checked. checked.players ≡ 4) }
 {
     the_trick_game_is_accepted();
-    match read_forms(alloc, trick_text(), 1) {
+    let arena = Bump::new(alloc);
+    match read_forms(&arena, trick_text(), 1) {
         Ok(forms) => game_of(alloc, &forms),
         Err(FormFail::Fault(_)) => unreachable!(),
         Err(FormFail::Memory) => Err(Memory),

@@ -15,7 +15,7 @@ mod word;
 
 pub use examples::{atoms, counted_lists, same_forms};
 pub use fault::{FormFail, FormFault, FormKind};
-pub use form::{Form, Span};
+pub use form::{Form, Parts, Span};
 pub use literal::{integer, natural};
 pub use print::{FormMemory, print_form, printed_form_reads_back};
 pub use rc_base::Word;

@@ -44,7 +44,7 @@ fn push_form(out: &mut Vec<u8>, form: &Form) -> Result<(), AllocError>
         Form::Atom { word, .. } => out.extend_from_slice(word.bytes()),
         Form::List { items, .. } => {
             out.push(b'(')?;
-            push_parts(out, items)?;
+            push_parts(out, items.as_slice())?;
             out.push(b')')?;
             Ok(())
         }

@@ -7,8 +7,10 @@ use crate::fault::{FormFail, FormKind};
 use crate::form::{Form, Span, atom_form, list_form};
 use crate::lexer::{atom_end, may_stand_in_atom};
 use crate::word::WordRef;
+use bumpalo::Bump;
+use bumpalo::collections::into_bump_slice;
 use rc_base::limits::{MOST_BYTES, MOST_OPEN};
-use std::alloc::{AllocError, Global};
+use std::alloc::AllocError;
 
 /// A list whose `)` hasn't come yet: where its `(` stands, and how many of the reader's forms stand before its parts.
 #[derive(Clone, Copy)]
@@ -20,23 +22,13 @@ pub struct OpenList {
 /// What is read so far: the complete lists, and behind them the parts of the open lists, those of the innermost last.
 /// The innermost open list is the last.
 ///
-/// A list takes its parts with it when it closes, into just enough memory: most lists are short, and a text may have
-/// very many of them.
+/// A list takes its parts with it when it closes, into the arena: most lists are short, and a text may have very many
+/// of them.
 #[derive(Drop)]
 pub struct FormReader<'t> {
     want: usize,
-    forms: Vec<Form<'t>>,
-    open_lists: Vec<OpenList>,
-}
-
-/// These forms, in just enough memory where there is any for a copy.
-fn without_spare<'t>(mut forms: Vec<Form<'t>>) -> Vec<Form<'t>>
-    ensures { result.items ≡ forms.entry.items }
-{
-    match forms.split_off(0) {
-        Ok(kept) => kept,
-        Err(_) => forms,
-    }
+    forms: Vec<Form<'t>, &'t Bump>,
+    open_lists: Vec<OpenList, &'t Bump>,
 }
 
 impl<'t> FormReader<'t> {
@@ -46,14 +38,14 @@ impl<'t> FormReader<'t> {
     ghost use Rattle.rc_form.specs.Lexer.{tokens_at, begins_token};
 
     /// A reader that has read nothing, and wants this number of lists.
-    pub fn new(alloc: Global, want: usize) -> FormReader<'t>
+    pub fn new(arena: &'t Bump, want: usize) -> FormReader<'t>
         ensures reads { (ts : List Token) → reads result ts ≡ read want [] [] ts }
         ensures in_order { IsInOrder result }
     {
         FormReader {
             want,
-            forms: Vec::new(alloc),
-            open_lists: Vec::new(alloc),
+            forms: Vec::new(arena),
+            open_lists: Vec::new(arena),
         }
     }
 
@@ -118,7 +110,7 @@ impl<'t> FormReader<'t> {
             from: inner.from,
             to: at + 1,
         };
-        match self.put(list_form(items, span)) {
+        match self.put(list_form(into_bump_slice(items), span)) {
             Ok(()) => Ok(at as usize + 1),
             Err(_) => Err(FormFail::Memory),
         }
@@ -182,7 +174,7 @@ impl<'t> FormReader<'t> {
     }
 
     /// The complete lists, where no more are wanted or no token is left.
-    pub fn finish(self) -> Result<Vec<Form<'t>>, FormFail>
+    pub fn finish(self) -> Result<Vec<Form<'t>, &'t Bump>, FormFail>
         ensures complete { (ts : List Token) → (IsTrue (is_reading self.entry) → ts ≡ [])
             → IfOk result (λ list. reads self.entry ts ≡ Ok (trees_of list.items, ts)) }
         ensures fault { (ts : List Token) → (IsTrue (is_reading self.entry) → ts ≡ [])
@@ -190,7 +182,7 @@ impl<'t> FormReader<'t> {
     {
         match self.open_lists.last() {
             Some(inner) => Err(FormFail::at(FormKind::Unclosed, inner.from)),
-            None => Ok(without_spare(self.forms)),
+            None => Ok(self.forms),
         }
     }
 }

@@ -16,21 +16,21 @@ use crate::fault::{FormFail, FormKind};
 use crate::form::Form;
 use crate::lexer::token_start;
 use crate::reader::FormReader;
-use std::alloc::Global;
+use bumpalo::Bump;
 
 /// The lists that a text begins with, and the offset of what follows them.
 #[derive(Drop)]
 pub struct Forms<'t> {
-    pub list: Vec<Form<'t>>,
+    pub list: Vec<Form<'t>, &'t Bump>,
     pub rest: usize,
 }
 
 /// Reads up to `want` lists from the front of a text: fewer where the text ends before.
 ///
 /// White space is space, tab, CR, LF and comma; a comment runs from `;` to the next LF. An atom has at most 64 bytes,
-/// and at most 64 lists are open at one place. The text has at most 33,554,432 bytes. Where memory runs out, nothing is
-/// said of the text.
-pub fn read_forms<'t>(alloc: Global, text: &'t [u8], want: usize) -> Result<Forms<'t>, FormFail>
+/// and at most 64 lists are open at one place. The text has at most 33,554,432 bytes. The parts of lists lie in the
+/// arena. Where memory runs out, nothing is said of the text.
+pub fn read_forms<'t>(arena: &'t Bump, text: &'t [u8], want: usize) -> Result<Forms<'t>, FormFail>
     requires { length text.now ≤ longest_text }
     ensures spelled { IfOk result (λ f. Spelled text.now want (trees_of f.list.items) f.rest) }
     ensures within { IfOk result (λ f. f.rest ≤ length text.now) }
@@ -56,7 +56,7 @@ pub fn read_forms<'t>(alloc: Global, text: &'t [u8], want: usize) -> Result<Form
     ensures sound { (forms : List Tree) (rest : ℕ) (kind : FormKind) (at : ℕ)
         → Spelled text.now want forms rest → IsFormFault text.now want kind at → ⊥ }
 {
-    read_lists(alloc, text, want)
+    read_lists(arena, text, want)
 }
 
 /// Each text spells the wanted lists or has a first fault. The function does nothing: its contract is the law.
@@ -65,7 +65,7 @@ pub fn texts_are_spelled_or_faulty()
 {}
 
 /// The wanted lists, or the first fault of the text.
-fn read_lists<'t>(alloc: Global, text: &'t [u8], want: usize) -> Result<Forms<'t>, FormFail>
+fn read_lists<'t>(arena: &'t Bump, text: &'t [u8], want: usize) -> Result<Forms<'t>, FormFail>
     requires { length text.now ≤ longest_text }
     ensures reads { IfOk result (λ f. read want [] [] (tokens text.now)
         ≡ Ok (trees_of f.list.items, tokens_at text.now f.rest)) }
@@ -73,7 +73,7 @@ fn read_lists<'t>(alloc: Global, text: &'t [u8], want: usize) -> Result<Forms<'t
     ensures within { IfOk result (λ f. f.rest ≤ length text.now) }
     ensures fault { IfErr result (FaultIs (read want [] [] (tokens text.now))) }
 {
-    let mut reader = FormReader::new(alloc, want);
+    let mut reader = FormReader::new(arena, want);
     let mut at = token_start(text, 0);
     while at < text.len() && reader.is_reading() {
         match reader.take(text, at) {

@@ -6,6 +6,7 @@ ghost use Rattle.rc_code.specs.Stands.{StandsFor};
 
 use crate::basis::{Basis, basis_in};
 use crate::sheets::NoGame;
+use bumpalo::Bump;
 use rc_base::limits::LONGEST_TEXT;
 use rc_code::Code;
 use rc_deck::Memory;
@@ -44,7 +45,8 @@ fn plan_in(alloc: Global, text: &[u8], players: u8) -> Result<Plan, NoGame> {
     if text.len() > LONGEST_TEXT || players < 1 || players > 8 {
         return Err(NoGame::Plan);
     }
-    let forms = match read_forms(alloc, text, 1) {
+    let arena = Bump::new(alloc);
+    let forms = match read_forms(&arena, text, 1) {
         Ok(forms) => forms,
         Err(FormFail::Fault(_)) => return Err(NoGame::Plan),
         Err(FormFail::Memory) => return Err(NoGame::Memory),

@@ -6,6 +6,7 @@ ghost use Rattle.rc_form.specs.SameForm.{IsOfAtoms};
 ghost use Rattle.rc_ast.specs.Sheet.{sheet_seen};
 ghost use Rattle.rc_sheet_spec.specs.WellFormed.{IsWellFormed};
 
+use bumpalo::Bump;
 use rc_ast::Sheet;
 use rc_base::limits::LONGEST_TEXT;
 use rc_deck::Memory;
@@ -68,7 +69,8 @@ pub(crate) fn sheet_in(alloc: Global, text: &[u8]) -> Result<Sheet, NoGame>
     if text.len() > LONGEST_TEXT {
         return Err(NoGame::Forms);
     }
-    let forms = match read_forms(alloc, text, 1) {
+    let arena = Bump::new(alloc);
+    let forms = match read_forms(&arena, text, 1) {
         Ok(forms) => forms,
         Err(FormFail::Fault(_)) => return Err(NoGame::Forms),
         Err(FormFail::Memory) => return Err(NoGame::Memory),

@@ -2,6 +2,7 @@
 ghost use Rattle.rc_form.specs.Form.{IsPrintable, tree_of};
 
 use crate::expect::expect_same;
+use bumpalo::Bump;
 use rc_form::{Form, Span, print_form, read_forms};
 use std::alloc::AllocError;
 use std::process::Abort;
@@ -13,7 +14,7 @@ fn push_spans(out: &mut Vec<Span>, form: &Form) -> Result<(), AllocError> {
         Form::Atom { span, .. } => out.push(*span)?,
         Form::List { items, span } => {
             out.push(*span)?;
-            for item in items {
+            for item in items.as_slice() {
                 push_spans(out, item)?;
             }
         }
@@ -53,7 +54,8 @@ fn expect_printed(rt: &(impl AllocGlobal + Abort), form: &Form, expected: &[u8])
 /// One list is wanted, and the next token behind it is a `)`.
 #[test]
 fn a_form_has_the_offsets_of_its_bytes_and_is_printed(rt: HostRuntime) -> Result<(), Fail> {
-    let forms = read_forms(rt.alloc(), b" ;(\r\n(a\t('b,c);)\r\n())\n ; )\n)z", 1)?;
+    let arena = Bump::new(rt.alloc());
+    let forms = read_forms(&arena, b" ;(\r\n(a\t('b,c);)\r\n())\n ; )\n)z", 1)?;
     let [form] = forms.list.as_slice() else {
         return Err("there is one list".into());
     };

@@ -3,6 +3,7 @@ ghost use Rattle.std.specs.Prelude.{◌<◌, ◌≤◌, length};
 ghost use Rattle.rc_base.specs.Limits.{longest_text};
 
 use crate::expect::expect_same;
+use bumpalo::Bump;
 use rc_base::limits::LONGEST_TEXT;
 use rc_form::read_forms;
 use rc_games::{GAME, basis_in, checked_of_form};
@@ -152,8 +153,9 @@ fn log_in(alloc: Global, plan: &[u8], seat: u8) -> Result<Vec<u8>, Fail>
     requires few { length plan.now ≤ longest_text }
     requires seat { seat < 2 }
 {
-    let sheets = read_forms(alloc, GAME, 1)?;
-    let plans = read_forms(alloc, plan, 1)?;
+    let arena = Bump::new(alloc);
+    let sheets = read_forms(&arena, GAME, 1)?;
+    let plans = read_forms(&arena, plan, 1)?;
     let (Some(sheet), Some(plan)) = (sheets.list.first(), plans.list.first()) else {
         return Err("each text has a list".into());
     };

@@ -37,7 +37,7 @@ pub fn parts_behind<'s, 'a>(form: &'s Form<'a>, text: &[u8]) -> Option<&'s [Form
     let Form::List { items, .. } = form else {
         return None;
     };
-    let (head, parts) = items.split_first()?;
+    let (head, parts) = items.as_slice().split_first()?;
     if is_word(head, text) {
         Some(parts)
     } else {

@@ -141,7 +141,7 @@ fn read_match(alone: bool, form: &Form) -> Result<Match, PlanFail>
     match form {
         Form::Atom { span, .. } => Err(PlanFail::shape(span.from)),
         Form::List { items, span } => {
-            let deal = read_deal(items, span.from)?;
+            let deal = read_deal(items.as_slice(), span.from)?;
             Ok(Match::One(deal))
         }
     }

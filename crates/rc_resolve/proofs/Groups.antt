@@ -1,12 +1,12 @@
 -- What a group of a deck mentions, by the parts that are found.
-use Rattle.std.proofs.Common.{◌≡◌, ℕ, List, [], ◌∷◌, ◌++◌, length, get_or, Vec, refl, sym, ap, ◌∙◌}
-use Rattle.std.specs.Global.{Global}
+use Rattle.std.proofs.Common.{◌≡◌, ℕ, List, [], ◌∷◌, ◌++◌, length, get_or, refl, sym, ap, ◌∙◌}
 use Rattle.std.proofs.lemmas.List.{append-nil}
 use Rattle.rc_base.specs.Tree.{Tree, word, list, Trees, nil, cons}
 use Rattle.rc_form.specs.declared.form.Form.{Form}
+use Rattle.rc_form.specs.declared.form.Parts.{Parts}
 use Rattle.rc_form.specs.declared.form.Span.{Span}
 use Rattle.rc_form.specs.declared.form.Form.TheVariants.{Atom, List as ListOf}
-use Rattle.rc_form.specs.Form.{tree_of, trees_of, packed}
+use Rattle.rc_form.specs.Form.{tree_of, trees_of, trees_in, packed}
 use Rattle.rc_form.proofs.FormLemmas.{tree_of_atom, tree_of_list}
 use Rattle.rc_resolve.proofs.SliceLemmas.{two}
 use Rattle.rc_sheet_spec.specs.FormMentions.{word_of, branch_attr_words, branch_value_words}
@@ -28,12 +28,12 @@ other_group (a ∷ []) span other = refl
 other_group (a ∷ b ∷ []) span other = absurd (other refl)
 other_group (a ∷ b ∷ c ∷ cs) span other = long_group (tree_of a) (tree_of b) (tree_of c) (packed (trees_of cs)) span
 
-module _ (group : Form) (items : Vec Form Global) (span : Span) (is : group ≡ ListOf items span)
-    (slice : List Form) (same : slice ≡ items.items) where
+module _ (group : Form) (items : Parts) (span : Span) (is : group ≡ ListOf items span)
+    (slice : List Form) (same : trees_of slice ≡ trees_in items) where
   group_tree : in_groups (cons (tree_of group) nil) ≡ in_groups (alone (packed (trees_of slice)) span)
   group_tree =
       ap (λ tree. in_groups (cons tree nil)) (tree_of_list group items span is)
-      ∙ ap (λ forms. in_groups (alone (packed (trees_of forms)) span)) (sym same)
+      ∙ ap (λ trees. in_groups (alone (packed trees) span)) (sym same)
 
   -- it has two parts
   pub group_other : (length slice ≡ 2 → ⊥) → in_groups (cons (tree_of group) nil) ≡ none
@@ -52,11 +52,11 @@ module _ (group : Form) (items : Vec Form Global) (span : Span) (is : group ≡ 
         parts ∙ ap (λ tree. in_groups (alone (cons (tree_of attr) (cons tree nil)) span)) (tree_of_atom second bytes at atom)
 
     -- which has the branches
-    pub group_two : (branches : Vec Form Global) (at : Span) → second ≡ ListOf branches at → (known : Mentions) →
-        with_all (with_all known (in_deck_of (word_of (tree_of attr)) [])) (in_branches (packed (trees_of branches.items)))
+    pub group_two : (branches : Parts) (at : Span) → second ≡ ListOf branches at → (known : Mentions) →
+        with_all (with_all known (in_deck_of (word_of (tree_of attr)) [])) (in_branches (packed (trees_in branches)))
         ≡ with_all known (in_groups (cons (tree_of group) nil))
     group_two branches at listed known =
-        let inner = packed (trees_of branches.items) in
+        let inner = packed (trees_in branches) in
         with_all-joined known (in_deck_of (word_of (tree_of attr)) []) (in_branches inner)
         ∙ ap (λ attrs. with_all known (in_deck_of attrs (branch_value_words inner)))
         (sym (append-nil (word_of (tree_of attr) ++ branch_attr_words inner)))

@@ -25,6 +25,7 @@ pub fn read_entries<N: Numbers>(
     let Form::List { items, .. } = entries else {
         return Ok(None);
     };
+    let items = items.as_slice();
     if items.is_empty() {
         return Ok(None);
     }
@@ -50,6 +51,7 @@ fn read_entry<N: Numbers>(
     let Form::List { items, .. } = form else {
         return Ok(None);
     };
+    let items = items.as_slice();
     if items.len() != 3 {
         return Ok(None);
     }
@@ -87,6 +89,7 @@ fn read_value_list<N: Numbers>(
     let Form::List { items, .. } = form else {
         return Ok(None);
     };
+    let items = items.as_slice();
     if items.is_empty() {
         return Ok(None);
     }

@@ -92,7 +92,7 @@ impl Known {
             return Ok(());
         };
         self.add_attr(attr)?;
-        self.add_branches(branches)
+        self.add_branches(branches.as_slice())
     }
 
     #[cycle(groups)]
@@ -113,7 +113,7 @@ impl Known {
         let Form::List { items, .. } = branch else {
             return self.add_value(branch);
         };
-        let Some((value, groups)) = items.split_first() else {
+        let Some((value, groups)) = items.as_slice().split_first() else {
             return Ok(());
         };
         self.add_value(value)?;

@@ -14,7 +14,7 @@ pub fn parts_of<'s, 'a>(form: &'s Form<'a>) -> &'s [Form<'a>]
 {
     match form {
         Form::Atom { .. } => &[],
-        Form::List { items, .. } => items,
+        Form::List { items, .. } => items.as_slice(),
     }
 }
 

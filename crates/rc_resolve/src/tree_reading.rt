@@ -24,7 +24,7 @@ pub fn read_deck<N: Numbers>(
     let Form::List { items, .. } = deck else {
         return Ok(None);
     };
-    let Some((head, parts)) = items.split_first() else {
+    let Some((head, parts)) = items.as_slice().split_first() else {
         return Ok(None);
     };
     if !is_word(b"deck", head) || parts.is_empty() {
@@ -74,6 +74,7 @@ fn read_group<N: Numbers>(alloc: Global, names: &N, form: &Form) -> Result<Optio
     let Form::List { items, .. } = form else {
         return Ok(None);
     };
+    let items = items.as_slice();
     if items.len() != 2 {
         return Ok(None);
     }
@@ -99,6 +100,7 @@ fn read_branch_list<N: Numbers>(
     match form {
         Form::Atom { .. } => Ok(None),
         Form::List { items, .. } => {
+            let items = items.as_slice();
             if items.is_empty() {
                 return Ok(None);
             }
@@ -136,7 +138,7 @@ fn read_branch<N: Numbers>(alloc: Global, names: &N, form: &Form) -> Result<Opti
     let Form::List { items, .. } = form else {
         return Ok(plain_branch(alloc, names, form));
     };
-    let Some((head, below)) = items.split_first() else {
+    let Some((head, below)) = items.as_slice().split_first() else {
         return Ok(None);
     };
     if below.is_empty() {

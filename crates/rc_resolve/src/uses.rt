@@ -108,7 +108,7 @@ fn class_of(holder: &Form) -> Class
             }
         }
         Form::List { items, .. } => {
-            if rule_of(Symbol::Owner, items) == Some(Rule::CurrentPlayer) {
+            if rule_of(Symbol::Owner, items.as_slice()) == Some(Rule::CurrentPlayer) {
                 Class::Player
             } else {
                 Class::Team

@@ -37,8 +37,9 @@ impl Known {
         match form {
             Form::Atom { .. } => Ok(()),
             Form::List { items, .. } => {
-                self.add_names(items)?;
-                self.add_own(items)
+                let parts = items.as_slice();
+                self.add_names(parts)?;
+                self.add_own(parts)
             }
         }
     }
@@ -51,8 +52,9 @@ impl Known {
         match form {
             Form::Atom { .. } => Ok(()),
             Form::List { items, .. } => {
-                self.add_locations(items)?;
-                self.add_own_location(items)
+                let parts = items.as_slice();
+                self.add_locations(parts)?;
+                self.add_own_location(parts)
             }
         }
     }
@@ -75,7 +77,7 @@ impl Known {
     {
         match form {
             Form::Atom { .. } => Ok(()),
-            Form::List { items, .. } => self.add_bound(items),
+            Form::List { items, .. } => self.add_bound(items.as_slice()),
         }
     }
 

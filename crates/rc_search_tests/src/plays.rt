@@ -4,6 +4,7 @@ ghost use Rattle.rc_play_spec.specs.Limits.{IsWithinLimits};
 ghost use Rattle.rc_rules.specs.Plan.{plan_seen};
 ghost use Rattle.rc_search.specs.Rival.{IsRival};
 
+use bumpalo::Bump;
 use rc_base::limits::LONGEST_TEXT;
 use rc_flow::Checked;
 use rc_form::read_forms;
@@ -36,7 +37,8 @@ fn sheet_in(alloc: Global, text: &[u8]) -> Result<Checked, Fail> {
     if text.len() > LONGEST_TEXT {
         return Err("a long text".into());
     }
-    let Ok(forms) = read_forms(alloc, text, 1) else {
+    let arena = Bump::new(alloc);
+    let Ok(forms) = read_forms(&arena, text, 1) else {
         return Err("no forms".into());
     };
     let Some(form) = forms.list.first() else {
@@ -53,7 +55,8 @@ fn plan_in(alloc: Global, text: &[u8], players: u8) -> Result<Plan, Fail>
     if text.len() > LONGEST_TEXT || players < 1 || players > 8 {
         return Err("a long text, or too many players".into());
     }
-    let Ok(forms) = read_forms(alloc, text, 1) else {
+    let arena = Bump::new(alloc);
+    let Ok(forms) = read_forms(&arena, text, 1) else {
         return Err("no forms".into());
     };
     let Some(form) = forms.list.first() else {

@@ -1,14 +1,14 @@
 -- What is read off a list, by the form that it has, and the parts of lists.
 use denote.Param.Weighed.{most}
-use Rattle.std.proofs.Common.{◌≡◌, ℕ, max, ◌+◌, ◌-◌, ◌<◌, ◌≤◌, List, [], ◌∷◌, length, get_or, take, drop, Vec, Option, Some, Result, Ok, Err, sym, ap, ◌∙◌, arith}
+use Rattle.std.proofs.Common.{◌≡◌, ℕ, max, ◌+◌, ◌-◌, ◌<◌, ◌≤◌, List, [], ◌∷◌, length, get_or, take, drop, Option, Some, Result, Ok, Err, sym, ap, ◌∙◌, arith}
 use Rattle.std.proofs.lemmas.List.{take_all}
-use Rattle.std.specs.Global.{Global}
 use Rattle.rc_base.specs.Tree.{Tree, list, Trees, nil, cons}
-use Rattle.rc_form.specs.Form.{tree_of, trees_of, packed}
+use Rattle.rc_form.specs.Form.{tree_of, trees_of, trees_in, packed}
 use Rattle.rc_form.specs.declared.form.Form.{Form}
 use Rattle.rc_form.specs.declared.form.Form.TheVariants.{List as ListOf}
 use Rattle.rc_form.specs.declared.form.Form.TheViews.{sized-List}
 use Rattle.rc_form.specs.declared.form.Form.{size-Form}
+use Rattle.rc_form.specs.declared.form.Parts.{Parts, size-Parts, size_is-Parts}
 use Rattle.rc_form.specs.declared.form.Span.{Span}
 use Rattle.rc_form.proofs.FormLemmas.{tree_of_list}
 use Rattle.rc_check.specs.declared.grammar.Symbol.{Symbol}
@@ -31,24 +31,25 @@ pub list_gives : {X Y : Type 0} (view : X → Y) (reading : Tree → Option Y) (
     (rules forms : ℕ → Rule → Trees → Option Y)
     → ((parts : Trees) (from to : ℕ) → reading (list parts from to) ≡ (rule_at place parts >>= λ rule. rules from rule parts))
     → ((from : ℕ) (rule : Rule) (parts : Trees) → rules from rule parts ≡ forms from rule parts)
-    → (form : Form) (items : Vec Form Global) (span : Span) (rule : Rule) (parts : List Form) (result : Result X Unread)
-    → form ≡ ListOf items span → parts ≡ items.items → rule_at place (packed (trees_of parts)) ≡ Some rule
+    → (form : Form) (items : Parts) (span : Span) (rule : Rule) (parts : List Form) (result : Result X Unread)
+    → form ≡ ListOf items span → trees_of parts ≡ trees_in items → rule_at place (packed (trees_of parts)) ≡ Some rule
     → Gives view result (forms span.from rule (packed (trees_of parts))) → Gives view result (reading (tree_of form))
 list_gives view reading place rules forms opens same form items span rule parts result is parts_is has gives =
-    let trees : Trees = packed (trees_of items.items) in
-    let found = ap (λ forms. rule_at place (packed (trees_of forms))) (sym parts_is) ∙ has in
+    let trees : Trees = packed (trees_in items) in
+    let found = ap (λ trees. rule_at place (packed trees)) (sym parts_is) ∙ has in
     let opened = ap reading (tree_of_list form items span is) ∙ opens trees span.from span.to in
     let first = ap (λ found. found >>= λ rule. rules span.from rule trees) found in
-    let last = same span.from rule trees ∙ ap (λ parts. forms span.from rule (packed (trees_of parts))) (sym parts_is) in
+    let last = same span.from rule trees ∙ ap (λ trees. forms span.from rule (packed trees)) (sym parts_is) in
     gives_same view result _ _ (opened ∙ first ∙ last) gives
 
 -- the parts of a list are less deep than the list
-pub parts_fall : (form : Form) (items : Vec Form Global) (span : Span) (parts : List Form) → form ≡ ListOf items span
-    → parts ≡ items.items → most size-Form parts < size-Form form
+pub parts_fall : (form : Form) (items : Parts) (span : Span) (parts : List Form) → form ≡ ListOf items span
+    → parts ≡ items.forms.now → most size-Form parts < size-Form form
 parts_fall form items span parts is parts_is =
-    let depth : size-Form (ListOf items span) ≡ max (most size-Form items.items) 0 + 1 = sized-List items span in
+    let depth : size-Form (ListOf items span) ≡ max (size-Parts items) 0 + 1 = sized-List items span in
+    let inner : size-Parts items ≡ max (most size-Form items.forms.now) 0 + 1 = size_is-Parts items in
     let same : size-Form form ≡ size-Form (ListOf items span) = ap size-Form is in
-    let parts_same : most size-Form parts ≡ most size-Form items.items = ap (most size-Form) parts_is in
+    let parts_same : most size-Form parts ≡ most size-Form items.forms.now = ap (most size-Form) parts_is in
     omega arith
 
 -- what gives the reading of a list's parts, where its trees are these

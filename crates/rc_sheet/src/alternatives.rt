@@ -30,8 +30,9 @@ impl Reader {
         match form {
             Form::Atom { .. } => self.range(alloc, scope, form),
             Form::List { items, span } => {
-                let rule = rule_at(Symbol::Domain, items)?;
-                self.domain_list(alloc, scope, span.from, rule, items)
+                let parts = items.as_slice();
+                let rule = rule_at(Symbol::Domain, parts)?;
+                self.domain_list(alloc, scope, span.from, rule, parts)
             }
         }
     }
@@ -138,7 +139,7 @@ impl Reader {
     {
         match form {
             Form::Atom { .. } => Err(Unread::Meaningless),
-            Form::List { items, .. } => self.alternative_list(alloc, scope, items),
+            Form::List { items, .. } => self.alternative_list(alloc, scope, items.as_slice()),
         }
     }
 

@@ -36,8 +36,9 @@ impl Reader {
         match form {
             Form::Atom { .. } => Err(Unread::Meaningless),
             Form::List { items, .. } => {
-                let rule = rule_at(Symbol::Spot, items)?;
-                self.spot_list(scope, rule, items)
+                let parts = items.as_slice();
+                let rule = rule_at(Symbol::Spot, parts)?;
+                self.spot_list(scope, rule, parts)
             }
         }
     }
@@ -239,7 +240,7 @@ impl Reader {
     {
         match form {
             Form::Atom { .. } => Err(Unread::Meaningless),
-            Form::List { items, .. } => self.effect_list(alloc, scope, items),
+            Form::List { items, .. } => self.effect_list(alloc, scope, items.as_slice()),
         }
     }
 

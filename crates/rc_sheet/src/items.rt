@@ -53,8 +53,9 @@ impl Reader {
         match form {
             Form::Atom { .. } => Err(Unread::Meaningless),
             Form::List { items, .. } => {
-                let rule = rule_at(Symbol::End, items)?;
-                self.end_list(alloc, rule, items)
+                let parts = items.as_slice();
+                let rule = rule_at(Symbol::End, parts)?;
+                self.end_list(alloc, rule, parts)
             }
         }
     }
@@ -163,7 +164,7 @@ impl Reader {
     {
         match form {
             Form::Atom { .. } => Err(Unread::Meaningless),
-            Form::List { items, .. } => self.item_list(alloc, begun, items),
+            Form::List { items, .. } => self.item_list(alloc, begun, items.as_slice()),
         }
     }
 
@@ -238,8 +239,9 @@ impl Reader {
         match form {
             Form::Atom { .. } => Err(Unread::Meaningless),
             Form::List { items, .. } => {
-                let rule = rule_at(Symbol::Scoring, items)?;
-                self.score_list(alloc, rule, items)
+                let parts = items.as_slice();
+                let rule = rule_at(Symbol::Scoring, parts)?;
+                self.score_list(alloc, rule, parts)
             }
         }
     }

@@ -24,8 +24,8 @@ impl Reader {
     {
         match form {
             Form::Atom { .. } => Err(Unread::Meaningless),
-            Form::List { items, span } => match rule_at(Symbol::Location, items)? {
-                Rule::Location => self.location_parts(scope, span.from, items),
+            Form::List { items, span } => match rule_at(Symbol::Location, items.as_slice())? {
+                Rule::Location => self.location_parts(scope, span.from, items.as_slice()),
                 _ => Err(Unread::Meaningless),
             },
         }
@@ -85,8 +85,8 @@ impl Reader {
     {
         match form {
             Form::Atom { .. } => Err(Unread::Meaningless),
-            Form::List { items, .. } => match rule_at(Symbol::Counter, items)? {
-                Rule::Counter => self.counter_parts(scope, items),
+            Form::List { items, .. } => match rule_at(Symbol::Counter, items.as_slice())? {
+                Rule::Counter => self.counter_parts(scope, items.as_slice()),
                 _ => Err(Unread::Meaningless),
             },
         }

@@ -30,7 +30,10 @@ pub fn owner_at(scope: &Scope, form: &Form) -> Result<Who, Unread>
 {
     match form {
         Form::Atom { word, .. } => Ok(Who::Var(scope.variable(Sort::Player, word.bytes())?)),
-        Form::List { items, .. } => owner_rule(scope, rule_at(Symbol::Owner, items)?, items),
+        Form::List { items, .. } => {
+            let parts = items.as_slice();
+            owner_rule(scope, rule_at(Symbol::Owner, parts)?, parts)
+        },
     }
 }
 
@@ -65,7 +68,7 @@ fn player_at(scope: &Scope, form: &Form) -> Result<Who, Unread>
 {
     match form {
         Form::Atom { word, .. } => Ok(Who::Var(scope.variable(Sort::Player, word.bytes())?)),
-        Form::List { items, .. } => match rule_at(Symbol::Player, items)? {
+        Form::List { items, .. } => match rule_at(Symbol::Player, items.as_slice())? {
             Rule::CurrentPlayer => Ok(Who::CurrentPlayer),
             _ => Err(Unread::Meaningless),
         },

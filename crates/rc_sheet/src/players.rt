@@ -53,8 +53,9 @@ fn team_at(alloc: Global, form: &Form) -> Result<Vec<u8>, Unread>
     let Form::List { items, .. } = form else {
         return Err(Unread::Meaningless);
     };
-    match rule_at(Symbol::Team, items)? {
-        Rule::Team => members_at(alloc, items),
+    let parts = items.as_slice();
+    match rule_at(Symbol::Team, parts)? {
+        Rule::Team => members_at(alloc, parts),
         _ => Err(Unread::Meaningless),
     }
 }

@@ -111,7 +111,8 @@ impl Reader {
         let Form::List { items, .. } = form else {
             return Err(Unread::Meaningless);
         };
-        self.line_rule(alloc, lines, rule_at(Symbol::Line, items)?, items)
+        let parts = items.as_slice();
+        self.line_rule(alloc, lines, rule_at(Symbol::Line, parts)?, parts)
     }
 
     /// One more line, of this form.

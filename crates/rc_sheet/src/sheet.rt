@@ -29,8 +29,8 @@ impl Reader {
         let Form::List { items, .. } = form else {
             return Err(Unread::Meaningless);
         };
-        match rule_at(Symbol::Sheet, items)? {
-            Rule::Game => self.game(alloc, items),
+        match rule_at(Symbol::Sheet, items.as_slice())? {
+            Rule::Game => self.game(alloc, items.as_slice()),
             _ => Err(Unread::Meaningless),
         }
     }
@@ -65,10 +65,10 @@ impl Reader {
         let Form::List { items, .. } = form else {
             return Err(Unread::Meaningless);
         };
-        let Rule::Setup = rule_at(Symbol::Setup, items)? else {
+        let Rule::Setup = rule_at(Symbol::Setup, items.as_slice())? else {
             return Err(Unread::Meaningless);
         };
-        let Some((_, lines)) = items.split_first() else {
+        let Some((_, lines)) = items.as_slice().split_first() else {
             return Err(Unread::Meaningless);
         };
         self.setup(alloc, lines)

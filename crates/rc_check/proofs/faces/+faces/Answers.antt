@@ -11,27 +11,27 @@ use Rattle.rc_check.proofs.faces.+faces.Goals as goal
 pub group_faces-returns-in_default-as_slice : goal.group_faces-returns-in_default-as_slice
 group_faces-returns-in_default-as_slice t c =
     ap (λ n. min n 513) (sym
-    (ap faces_by (list_seen _ _ _ _ c.in-List.is c.as_slice.ensures.value) ∙ once_by_short _ _ _ c.in_default-as_slice.len_below))
+    (ap faces_by (list_seen _ _ _ _ c.in-List.is c.as_slice.ensures.trees) ∙ once_by_short _ _ _ c.in_default-as_slice.len_below))
 
 pub group_faces-returns-in_default-as_slice-2 : goal.group_faces-returns-in_default-as_slice-2
 group_faces-returns-in_default-as_slice-2 t c =
     ap (λ n. min n 513) (sym
-    (ap faces_by (list_seen _ _ _ _ c.in-List.is c.as_slice.ensures.value)
+    (ap faces_by (list_seen _ _ _ _ c.in-List.is c.as_slice.ensures.trees)
     ∙ once_by_long _ _ _ c.in_default-as_slice.len_at_least))
 
 pub group_faces-returns-in-List-branches : goal.group_faces-returns-in-List-branches
 group_faces-returns-in-List-branches t c =
     let two = pair_by _ _ c.in-List.span.from c.in-List.span.to c.in-len2.len_at_least c.in-len2.len_below c.branches-item.is in
     let inner = ap branches_by (tree_of_list _ _ _ c.in-List-branches.is) in
-    let same = ap (λ forms. written_branches (packed (trees_of forms))) c.deref.ensures.value in
+    let same = ap (λ trees. written_branches (packed trees)) c.as_slice-in-List-branches.ensures.trees in
     c.branch_count.ensures ∙ ap (λ n. min n 513)
-    (same ∙ sym (ap faces_by (list_seen _ _ _ _ c.in-List.is c.as_slice.ensures.value) ∙ two ∙ inner))
+    (same ∙ sym (ap faces_by (list_seen _ _ _ _ c.in-List.is c.as_slice.ensures.trees) ∙ two ∙ inner))
 
 pub group_faces-returns-in-Atom : goal.group_faces-returns-in-Atom
 group_faces-returns-in-Atom t c =
     let two = pair_by _ _ c.in-List.span.from c.in-List.span.to c.in-len2.len_at_least c.in-len2.len_below c.branches-item.is in
     let inner = ap branches_by (tree_of_atom _ _ _ c.in-Atom.is) in
-    ap (λ n. min n 513) (sym (ap faces_by (list_seen _ _ _ _ c.in-List.is c.as_slice.ensures.value) ∙ two ∙ inner))
+    ap (λ n. min n 513) (sym (ap faces_by (list_seen _ _ _ _ c.in-List.is c.as_slice.ensures.trees) ∙ two ∙ inner))
 
 -- one group more
 pub face_count-loop-group-preserved : goal.face_count-loop-group-preserved

@@ -9,7 +9,7 @@ pub returns-then-is_word-clause-found : goal.returns-then-is_word-clause-found
 returns-then-is_word-clause-found c =
     let from = c.in-List.span.from in
     let to = c.in-List.span.to in
-    let items = sym c.deref.ensures.value ∙ c.in_ok-head.ensures.cases.0 in
-    let is = tree_of_list _ _ _ c.in-List.is ∙ ap (λ forms. list (packed (trees_of forms)) from to) items in
+    let items = sym c.as_slice.ensures.trees ∙ ap trees_of c.in_ok-head.ensures.cases.0 in
+    let is = tree_of_list _ _ _ c.in-List.is ∙ ap (λ trees. list (packed trees) from to) items in
     is_behind c.args.text.now (tree_of c.in_ok-head.head.now) (packed (trees_of c.in_ok-head.parts.now)) (tree_of c.args.form.now) from to is
     (sym c.if-is_word.ensures)

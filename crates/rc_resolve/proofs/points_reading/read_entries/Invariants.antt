@@ -6,5 +6,5 @@ use Rattle.rc_resolve.proofs.points_reading.read_entries.Given as goal
 
 abbrev pub invariant-loop-form : goal.invariant-loop-form
 invariant-loop-form g l =
-    option_map (onto_entries l.entries.items) (read_all_entries (g.N.Numbers.words l.names) (packed (trees_of (drop l.form-index l.form-items))))
-    ≡ read_all_entries (g.N.Numbers.words l.names) (packed (trees_of l.form-items))
+    option_map (onto_entries l.entries.items) (read_all_entries (g.N.Numbers.words l.names) (packed (trees_of (drop l.form-index l.items))))
+    ≡ read_all_entries (g.N.Numbers.words l.names) (packed (trees_of l.items))

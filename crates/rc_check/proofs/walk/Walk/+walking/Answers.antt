@@ -44,7 +44,7 @@ part-returns-in-List-clause-walked t c =
     let at = standing_seen c.args.at.now c.args.self.now.above in
     subst (λ tree. Checks
     (check_all c.args.whole.now c.args.self.now.seen (parts_at (Some at) tree)) c.list.result c.list.new.self.seen)
-    (sym (list_seen _ _ _ _ c.in-List.is c.deref.ensures.value)) (c.list.ensures.walked c.in-List.span.to)
+    (sym (list_seen _ _ _ _ c.in-List.is c.as_slice.ensures.trees)) (c.list.ensures.walked c.in-List.span.to)
 
 pub part_in-returns-then-is_quiet-clause-walked : goal.part_in-returns-then-is_quiet-clause-walked
 part_in-returns-then-is_quiet-clause-walked t c =

@@ -13,7 +13,7 @@ use Rattle.rc_check.proofs.whole.Whole.+learning.Goals.{learn_parts-in-Some+in_o
 pub learn-returns-in-List-clause-known : goal.learn-returns-in-List-clause-known
 learn-returns-in-List-clause-known t c = λ at place role.
     subst (λ tree. OnOk c.learn_list.result (c.learn_list.new.self ≡ know_all c.args.self.now (parts_at (Some at) tree)))
-    (sym (list_seen _ _ _ _ c.in-List.is c.deref.ensures.value))
+    (sym (list_seen _ _ _ _ c.in-List.is c.as_slice.ensures.trees))
     (c.learn_list.ensures.known at c.in-List.span.from c.in-List.span.to place role)
 
 pub learn_parts-loop-index-preserved : goal.learn_parts-loop-index-preserved

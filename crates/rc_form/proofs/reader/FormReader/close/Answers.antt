@@ -19,7 +19,8 @@ returns-in-Ok-put-clause-took c = λ ts.
     let parts = trees_of (drop inner.start forms) in
     let opened = ap reverse c.in-Some.ensures.items ∙ reverse-append c.pop.new.self.items (inner ∷ []) in
     let tree = c.list_form.ensures
-    ∙ ap (λ parts. list (packed (trees_of parts)) inner.from (at + 1)) c.in-Ok.ensures.tail in
+    ∙ ap (λ parts. list (packed (trees_of parts)) inner.from (at + 1)) (c.into_bump_slice.ensures ∙
+    c.in-Ok.ensures.tail) in
     let behind = c.split_off.new.self.items in
     ap (λ stack. read want (trees_of (complete stack forms)) (pendings stack forms) (closing at ∷ ts)) opened
     ∙ read_closing want (trees_of (complete outer before)) (record { from = inner.from; parts = parts })

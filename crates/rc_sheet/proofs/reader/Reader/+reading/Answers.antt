@@ -58,7 +58,7 @@ card-returns-in_ok-rule-in-List t c =
     list_gives card_seen (card_at naming scope) symbol.Card (λ from. card_rule naming scope) (λ from. card_form naming scope)
     (λ parts from to. refl) (λ from. card_forms naming scope) c.args.form.now c.in-List.items c.in-List.span
     c.in_ok-rule-in-List.rule c.as_slice-parts.result.now c.card_list.result c.in-List.is
-    c.as_slice-parts.ensures.value c.in_ok-rule-in-List.ensures.given c.card_list.ensures
+    c.as_slice-parts.ensures.trees c.in_ok-rule-in-List.ensures.given c.card_list.ensures
 
 pub collection-returns-in_ok-rule-in-List : goal.collection-returns-in_ok-rule-in-List
 collection-returns-in_ok-rule-in-List t c =
@@ -67,7 +67,7 @@ collection-returns-in_ok-rule-in-List t c =
     list_gives coll_seen (coll_at naming scope) symbol.Collection (coll_rule naming scope) (coll_form naming scope)
     (λ parts from to. refl) (coll_forms naming scope) c.args.form.now c.in-List.items c.in-List.span
     c.in_ok-rule-in-List.rule c.as_slice-parts.result.now c.collection_form.result c.in-List.is
-    c.as_slice-parts.ensures.value c.in_ok-rule-in-List.ensures.given c.collection_form.ensures
+    c.as_slice-parts.ensures.trees c.in_ok-rule-in-List.ensures.given c.collection_form.ensures
 
 pub integer-returns-in_ok-rule-in-List : goal.integer-returns-in_ok-rule-in-List
 integer-returns-in_ok-rule-in-List t c =
@@ -76,7 +76,7 @@ integer-returns-in_ok-rule-in-List t c =
     list_gives int_seen (int_at naming scope) symbol.Integer (λ from. int_rule naming scope) (λ from. int_form naming scope)
     (λ parts from to. refl) (λ from. int_forms naming scope) c.args.form.now c.in-List.items c.in-List.span
     c.in_ok-rule-in-List.rule c.as_slice-parts.result.now c.integer_list.result c.in-List.is
-    c.as_slice-parts.ensures.value c.in_ok-rule-in-List.ensures.given c.integer_list.ensures
+    c.as_slice-parts.ensures.trees c.in_ok-rule-in-List.ensures.given c.integer_list.ensures
 
 pub test-returns-in_ok-rule-in-List : goal.test-returns-in_ok-rule-in-List
 test-returns-in_ok-rule-in-List t c =
@@ -85,7 +85,7 @@ test-returns-in_ok-rule-in-List t c =
     list_gives test_seen (test_at naming scope) symbol.Test (λ from. test_rule naming scope) (λ from. test_form naming scope)
     (λ parts from to. refl) (λ from. test_forms naming scope) c.args.form.now c.in-List.items c.in-List.span
     c.in_ok-rule-in-List.rule c.as_slice-parts.result.now c.test_list.result c.in-List.is
-    c.as_slice-parts.ensures.value c.in_ok-rule-in-List.ensures.given c.test_list.ensures
+    c.as_slice-parts.ensures.trees c.in_ok-rule-in-List.ensures.given c.test_list.ensures
 
 pub side-returns-in_ok-rule-in-List : goal.side-returns-in_ok-rule-in-List
 side-returns-in_ok-rule-in-List t c =
@@ -94,7 +94,7 @@ side-returns-in_ok-rule-in-List t c =
     list_gives side_seen (side_at naming scope) symbol.Side (λ from. side_rule naming scope) (λ from. side_form naming scope)
     (λ parts from to. refl) (λ from. side_forms naming scope) c.args.form.now c.in-List.items c.in-List.span
     c.in_ok-rule-in-List.rule c.as_slice-parts.result.now c.side_list.result c.in-List.is
-    c.as_slice-parts.ensures.value c.in_ok-rule-in-List.ensures.given c.side_list.ensures
+    c.as_slice-parts.ensures.trees c.in_ok-rule-in-List.ensures.given c.side_list.ensures
 
 -- what is read, in a box
 pub boxed_card-returns : goal.boxed_card-returns
