@@ -57,9 +57,9 @@ fn place_of(range: &Range, wanted: Class, owner: u8) -> Option<u16>
     }
 }
 
-/// The place of an owner of this class among those of a name, if there is one.
+// The place of an owner of this class among those of a name, if there is one.
 #[inline(always)]
-pub fn place_at(ranges: &[Range], name: u16, wanted: Class, owner: u8) -> Option<u16>
+fn place_at(ranges: &[Range], name: u16, wanted: Class, owner: u8) -> Option<u16>
     ensures { result ≡ place_in wanted owner (slice_get (ranges_seen ranges.now) name) }
 {
     match ranges.get(name as usize) {
@@ -92,22 +92,6 @@ impl Drop for Lookup {
 }
 
 impl Lookup {
-    /// The places of the names of locations.
-    #[inline(always)]
-    pub fn locations(&self) -> &[Range]
-        ensures { result.now ≡ self.now.locs.items }
-    {
-        &self.locs
-    }
-
-    /// The places of the names of numbers.
-    #[inline(always)]
-    pub fn numbers(&self) -> &[Range]
-        ensures { result.now ≡ self.now.nums.items }
-    {
-        &self.nums
-    }
-
     /// The location that an owner of this class has of a name, if there is one.
     #[inline(always)]
     pub fn location(&self, name: u16, class: Class, owner: u8) -> Option<u16>

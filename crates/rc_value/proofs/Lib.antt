@@ -21,6 +21,7 @@ pub mod MemberLemmas
 pub mod FrameEnds
 pub mod StageLemmas
 pub mod OwnerLemmas
+pub mod Owners
 pub mod ScoreLemmas
 pub mod ShownLemmas
 pub mod PeekLemmas

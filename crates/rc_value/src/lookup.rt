@@ -1,15 +1,12 @@
 //! Where locations and numbers stand.
-ghost use Rattle.std.specs.Prelude.{◌≡◌, slice_get};
-ghost use Rattle.rc_sheet_spec.specs.Naming.{class_of};
+ghost use Rattle.std.specs.Prelude.{◌≡◌};
 ghost use Rattle.rc_play_spec.specs.Value.{who_value, loc_place, num_place};
 ghost use Rattle.rc_ast.specs.Names.{who_seen, loc_seen, num_seen};
-ghost use Rattle.rc_rules.specs.Lookup.{place_in, ranges_seen};
 ghost use Rattle.rc_value.specs.Scene.{scene_seen};
 
 use crate::scene::Scene;
 use crate::scope::Bindings;
 use rc_ast::{Class, Loc, Num, Who};
-use rc_rules::{Range, place_at};
 
 /// The number of an owner: a player's or a team's, and 0 for the game.
 #[tactic(auto, unfolding(crate::specs::Scene::scene_seen))]
@@ -27,34 +24,31 @@ pub fn who_of(scene: &Scene, scope: &Bindings, who: &Who) -> u8
     }
 }
 
-// The place that an owner has of a name, if there is one. Of which class he is, is known where the owner is: so one
-// number tells whether there is such a place.
-#[inline(always)]
-fn place_of(scene: &Scene, scope: &Bindings, ranges: &[Range], name: u16, who: &Who) -> Option<u16>
-    ensures { result ≡ place_in (class_of (who_seen who.now))
-        (who_value (scene_seen scene.now).known scope.now (who_seen who.now))
-        (slice_get (ranges_seen ranges.now) name) }
-{
-    match who {
-        Who::Game => place_at(ranges, name, Class::Game, who_of(scene, scope, who)),
-        Who::CurrentPlayer => place_at(ranges, name, Class::Player, who_of(scene, scope, who)),
-        Who::Var(_) => place_at(ranges, name, Class::Player, who_of(scene, scope, who)),
-        _ => place_at(ranges, name, Class::Team, who_of(scene, scope, who)),
-    }
-}
-
-/// The number of a location, if there is one.
+/// The number of a location, if there is one. Who owns it is told once, with the class that he is of: so a count tells
+/// whether there is such a place.
 #[inline(always)]
 pub fn loc_at(scene: &Scene, scope: &Bindings, loc: &Loc) -> Option<u16>
     ensures { result ≡ loc_place (scene_seen scene.now).known scope.now (loc_seen loc.now) }
 {
-    place_of(scene, scope, scene.lookup.locations(), loc.name, &loc.who)
+    let places = scene.lookup;
+    match &loc.who {
+        Who::Game => places.location(loc.name, Class::Game, 0),
+        Who::CurrentPlayer => places.location(loc.name, Class::Player, scene.current.player),
+        Who::Var(var) => places.location(loc.name, Class::Player, scope.player(*var)),
+        _ => places.location(loc.name, Class::Team, who_of(scene, scope, &loc.who)),
+    }
 }
 
-/// The number of a number that the game keeps, if there is one.
+/// The number of a number that the game keeps, if there is one, found alike.
 #[inline(always)]
 pub fn num_at(scene: &Scene, scope: &Bindings, num: &Num) -> Option<u16>
     ensures { result ≡ num_place (scene_seen scene.now).known scope.now (num_seen num.now) }
 {
-    place_of(scene, scope, scene.lookup.numbers(), num.name, &num.who)
+    let places = scene.lookup;
+    match &num.who {
+        Who::Game => places.number(num.name, Class::Game, 0),
+        Who::CurrentPlayer => places.number(num.name, Class::Player, scene.current.player),
+        Who::Var(var) => places.number(num.name, Class::Player, scope.player(*var)),
+        _ => places.number(num.name, Class::Team, who_of(scene, scope, &num.who)),
+    }
 }

@@ -1,23 +1,72 @@
-use Rattle.std.proofs.Common.{map, slice_get, ap, ◌∙◌}
-use Rattle.rc_sheet_spec.specs.Sheet.{LocName}
+use Rattle.std.proofs.Common.{ℕ, map, slice_get, ap, sym, ◌∙◌}
+use Rattle.rc_sheet_spec.specs.Sheet.{LocName, game_class, player_class, team_class}
 use Rattle.rc_sheet_spec.specs.Naming.{class_of}
+use Rattle.rc_play_spec.specs.Owners.{place_among}
 use Rattle.rc_play_spec.specs.Value.{who_value}
-use Rattle.rc_ast.specs.Names.{loc_seen}
+use Rattle.rc_ast.specs.Names.{who_seen}
 use Rattle.rc_ast.specs.Sheet.{sheet_seen}
-use Rattle.rc_rules.specs.Lookup.{place_in, ranges_seen}
-use Rattle.rc_value.specs.Scene.{scene_seen}
+use Rattle.rc_rules.specs.Lookup.{place_in}
 use Rattle.rc_rules.proofs.Ranges.{place_is}
+use Rattle.rc_value.specs.Scene.{scene_seen}
+use Rattle.rc_value.proofs.Owners.{is_team}
 use Rattle.rc_value.proofs.lookup.loc_at.Goals as goal
 
-pub returns : goal.returns
+pub returns-in-Game : goal.returns-in-Game
 unfolding scene_seen
-returns c =
+returns-in-Game c =
     let scene = c.args.scene.now in
     let sheet = sheet_seen scene.sheet.now in
-    let loc = loc_seen c.args.loc.now in
-    let owner = who_value (scene_seen scene).known c.args.scope.now loc.who in
     let classes = map (λ (name : LocName). name.class) sheet.locs in
-    c.place_of.ensures
-    ∙ ap (λ ranges. place_in (class_of loc.who) owner (slice_get (ranges_seen ranges) loc.name)) c.locations.ensures
-    ∙ ap (λ places. place_in (class_of loc.who) owner (slice_get places loc.name)) scene.looked_up.locs
-    ∙ place_is sheet (class_of loc.who) classes loc.name owner
+    let name = c.args.loc.now.name in
+    let owner : ℕ = 0 in
+    c.location.ensures
+    ∙ ap (λ places. place_in game_class owner (slice_get places name)) scene.looked_up.locs
+    ∙ place_is sheet game_class classes name owner
+    ∙ sym (ap (λ who. place_among sheet (class_of (who_seen who)) classes name
+    (who_value (scene_seen scene).known c.args.scope.now (who_seen who))) c.in-Game.is)
+
+pub returns-in-CurrentPlayer : goal.returns-in-CurrentPlayer
+unfolding scene_seen
+returns-in-CurrentPlayer c =
+    let scene = c.args.scene.now in
+    let sheet = sheet_seen scene.sheet.now in
+    let classes = map (λ (name : LocName). name.class) sheet.locs in
+    let name = c.args.loc.now.name in
+    let owner = scene.current.player in
+    c.location-in-CurrentPlayer.ensures
+    ∙ ap (λ places. place_in player_class owner (slice_get places name)) scene.looked_up.locs
+    ∙ place_is sheet player_class classes name owner
+    ∙ ap (place_among sheet player_class classes name) scene.current_is.0
+    ∙ sym (ap (λ who. place_among sheet (class_of (who_seen who)) classes name
+    (who_value (scene_seen scene).known c.args.scope.now (who_seen who))) c.in-CurrentPlayer.is)
+
+pub returns-in-Var : goal.returns-in-Var
+unfolding scene_seen
+returns-in-Var c =
+    let scene = c.args.scene.now in
+    let sheet = sheet_seen scene.sheet.now in
+    let classes = map (λ (name : LocName). name.class) sheet.locs in
+    let name = c.args.loc.now.name in
+    let owner = c.player.result in
+    c.location-in-Var.ensures
+    ∙ ap (λ places. place_in player_class owner (slice_get places name)) scene.looked_up.locs
+    ∙ place_is sheet player_class classes name owner
+    ∙ ap (place_among sheet player_class classes name) c.player.ensures
+    ∙ sym (ap (λ who. place_among sheet (class_of (who_seen who)) classes name
+    (who_value (scene_seen scene).known c.args.scope.now (who_seen who))) c.in-Var.is)
+
+pub returns-in_default : goal.returns-in_default
+unfolding scene_seen
+returns-in_default c =
+    let scene = c.args.scene.now in
+    let sheet = sheet_seen scene.sheet.now in
+    let classes = map (λ (name : LocName). name.class) sheet.locs in
+    let name = c.args.loc.now.name in
+    let owner = c.who_of.result in
+    c.location-in_default.ensures
+    ∙ ap (λ places. place_in team_class owner (slice_get places name)) scene.looked_up.locs
+    ∙ place_is sheet team_class classes name owner
+    ∙ ap (place_among sheet team_class classes name) c.who_of.ensures
+    ∙ ap (λ class. place_among sheet class classes name
+    (who_value (scene_seen scene).known c.args.scope.now (who_seen c.args.loc.now.who)))
+    (sym (is_team c.args.loc.now.who c.in_default.not-Game c.in_default.not-CurrentPlayer c.in_default.not-Var))
