@@ -71,4 +71,5 @@ fits_entry entry face = list_any (λ pair. pair.0 == entry.attr && list_any (λ 
 
 -- what a face is worth: the sum over the entries that it fits, clamped once
 abbrev pub points_of : List Entry → Face → ℤ
-points_of entries face = clamped (fold ◌+ℤ◌ (pos 0) (map (λ entry. if fits_entry entry face then entry.points else pos 0) entries))
+points_of entries face =
+    clamped (fold ◌+ℤ◌ (pos 0) (map (λ entry. if fits_entry entry face then entry.points else pos 0) entries))

@@ -57,7 +57,8 @@ token_at in_atom offset b bytes = if is_part b then [] else token_with offset b 
 -- the tokens of bytes that begin at this offset and in this place
 abbrev pub tokens_from : LexerState → ℕ → List ℕ → List Token
 tokens_from place offset [] = []
-tokens_from place offset (b ∷ bytes) = token_at place offset b bytes ++ tokens_from (state_behind place b) (offset + 1) bytes
+tokens_from place offset (b ∷ bytes) =
+    token_at place offset b bytes ++ tokens_from (state_behind place b) (offset + 1) bytes
 
 -- the tokens of a text
 abbrev pub tokens : List ℕ → List Token

@@ -23,7 +23,8 @@ frame_fed frame = fed.u16 frame.stage ++ (fed.u8 frame.member ++ (fed.bool frame
 
 abbrev pub control_fed : Control → List (List ℕ)
 control_fed control =
-    fed.option fed.u8 control.site ++ (fed.slice frame_fed control.frames ++ (fed.u32 control.turn ++ fed.slice fed.u32 control.made))
+    fed.option fed.u8 control.site
+    ++ (fed.slice frame_fed control.frames ++ (fed.u32 control.turn ++ fed.slice fed.u32 control.made))
 
 -- the numbers twice
 abbrev pub view_fed : View → List (List ℕ)

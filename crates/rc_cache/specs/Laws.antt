@@ -20,16 +20,19 @@ NoKeyTwice = (capacity : ℕ) (calls : List Call) → IsDistinct same_key (repla
 -- The replay of legal calls has at most as many keys as there is room for. A call that isn't legal may bring a key to the front that
 -- wasn't there.
 abbrev pub ReplayFits : Type 0
-ReplayFits = (capacity : ℕ) (calls : List Call) → is_legal capacity calls ≡ true → length (replay capacity calls) ≤ capacity
+ReplayFits = (capacity : ℕ) (calls : List Call) → is_legal capacity calls ≡ true →
+    length (replay capacity calls) ≤ capacity
 
 -- without a keep there is no hit
 abbrev pub NoHitUnkept : Type 0
-NoHitUnkept = (capacity : ℕ) (calls : List Call) → is_legal capacity calls ≡ true → keeps_of calls ≡ 0 → hits_of calls ≡ 0
+NoHitUnkept = (capacity : ℕ) (calls : List Call) → is_legal capacity calls ≡ true → keeps_of calls ≡ 0 →
+    hits_of calls ≡ 0
 
 -- where each look either hits or is followed by a keep, and there is a look, one look at least misses
 abbrev pub SomeLookMisses : Type 0
 SomeLookMisses =
-    (capacity : ℕ) (calls : List Call) → is_legal capacity calls ≡ true → keeps_of calls + hits_of calls ≡ looks_of calls →
+    (capacity : ℕ) (calls : List Call) → is_legal capacity calls ≡ true →
+    keeps_of calls + hits_of calls ≡ looks_of calls →
     0 < looks_of calls → hits_of calls < looks_of calls
 
 -- exactly the keys of these looks stand here

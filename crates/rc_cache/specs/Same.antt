@@ -15,7 +15,8 @@ same_frame f g = f.stage == g.stage && (f.member == g.member && (beq f.back g.ba
 
 abbrev pub same_control : Control → Control → Bool
 same_control c d =
-    option_eq nat_eq c.site d.site && (pointwise same_frame c.frames d.frames && (c.turn == d.turn && pointwise nat_eq c.made d.made))
+    option_eq nat_eq c.site d.site
+    && (pointwise same_frame c.frames d.frames && (c.turn == d.turn && pointwise nat_eq c.made d.made))
 
 abbrev pub same_sight : Sight → Sight → Bool
 same_sight (with_faces fs) (with_faces gs) = pointwise nat_eq fs gs
@@ -25,7 +26,9 @@ same_sight (partly os) (partly ps) = pointwise (option_eq nat_eq) os ps
 
 abbrev pub same_view : View → View → Bool
 same_view v w =
-    v.seat == w.seat && (same_control v.control w.control && (pointwise int_eq v.numbers w.numbers && pointwise same_sight v.sights w.sights))
+    v.seat == w.seat
+    && (same_control v.control w.control
+    && (pointwise int_eq v.numbers w.numbers && pointwise same_sight v.sights w.sights))
 
 abbrev pub same_ask : Ask → Ask → Bool
 same_ask a b = a.rounds == b.rounds && (a.key == b.key && (a.seed == b.seed && same_view a.view b.view))

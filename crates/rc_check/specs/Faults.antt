@@ -25,7 +25,8 @@ is_word keyword bytes = bytes_eq bytes (text_of keyword)
 
 -- the word is a kind of location
 abbrev pub is_kind : List ℕ → Bool
-is_kind bytes = is_word keyword.Vloc bytes || is_word keyword.Iloc bytes || is_word keyword.Hloc bytes || is_word keyword.Mem bytes
+is_kind bytes =
+    is_word keyword.Vloc bytes || is_word keyword.Iloc bytes || is_word keyword.Hloc bytes || is_word keyword.Mem bytes
 
 -- the word spells a number in this range
 abbrev pub is_within : ℤ → ℤ → Option ℤ → Bool
@@ -170,7 +171,8 @@ place_at rule n index = or_behind (slice_get (front_of rule) index) (behind_fron
 
 -- the tree is a line that begins with `create players`
 abbrev pub names_players : Tree → Bool
-names_players (list (cons head parts) from to) = is_form_word keyword.Create head && is_told (Some keyword.Players) parts
+names_players (list (cons head parts) from to) =
+    is_form_word keyword.Create head && is_told (Some keyword.Players) parts
 names_players (list nil from to) = false
 names_players (word bytes from to) = false
 
@@ -206,7 +208,8 @@ fault_place place from (cons head parts) =
 -- the faults of a list of these parts that is to be this form, where the parts have the inner faults
 abbrev pub rule_faults : ℕ → Trees → List SheetFault → Rule → List SheetFault
 rule_faults from parts inner rule =
-    if fits (count parts) rule then (if lacks_players rule parts then shape from ∷ inner else inner) else shape from ∷ []
+    if fits (count parts) rule then (if lacks_players rule parts then shape from ∷ inner else inner)
+    else shape from ∷ []
 
 -- the faults of a list of these parts that is to be this form, or none
 abbrev pub told_faults : Symbol → ℕ → Trees → (Rule → List SheetFault) → Option Rule → List SheetFault
@@ -215,7 +218,8 @@ told_faults place from parts inner (Some rule) = rule_faults from parts (inner r
 
 -- what is wrong with an atom that stands here
 abbrev pub atom_faults : Symbol → List ℕ → ℕ → List SheetFault
-atom_faults place bytes from = option_to_list (option_map (λ kind. record { kind = kind; at = from }) (atom_kind place bytes))
+atom_faults place bytes from =
+    option_to_list (option_map (λ kind. record { kind = kind; at = from }) (atom_kind place bytes))
 
 -- All faults of a tree at a place, in the order of the text. A part whose shape is at fault isn't looked into.
 abbrev mutual
@@ -229,7 +233,8 @@ abbrev mutual
   -- the faults of a form's parts, where it has so many, from the part at this index on
   pub faults_in : Rule → ℕ → ℕ → Trees → List SheetFault
   faults_in rule n index nil = []
-  faults_in rule n index (cons tree trees) = faults_at (place_at rule n index) tree ++ faults_in rule n (index + 1) trees
+  faults_in rule n index (cons tree trees) =
+      faults_at (place_at rule n index) tree ++ faults_in rule n (index + 1) trees
 
 abbrev pub faults : Symbol → Tree → List SheetFault
 faults place tree = faults_at (Some place) tree

@@ -10,4 +10,5 @@ use Rattle.rc_check.specs.SecondFaults.{second_faults}
 -- it is the first of the first round, or of the second where the first round has none
 abbrev pub IsFirstFault : Tree → SheetFault → Type 0
 IsFirstFault tree fault =
-    IsFirstOf (faults symbol.Sheet tree) fault ⊎ ((faults symbol.Sheet tree ≡ []) × IsFirstOf (second_faults tree) fault)
+    IsFirstOf (faults symbol.Sheet tree) fault
+    ⊎ ((faults symbol.Sheet tree ≡ []) × IsFirstOf (second_faults tree) fault)

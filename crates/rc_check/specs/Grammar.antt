@@ -32,7 +32,8 @@ forms_of symbol.Item = rule.Do ∷ rule.PlayerStage ∷ rule.TeamStage ∷ rule.
 forms_of symbol.End = rule.End ∷ []
 forms_of symbol.Alternative = rule.Do ∷ rule.If ∷ rule.AnyOf ∷ []
 forms_of symbol.Domain = rule.Location ∷ rule.Filter ∷ rule.Union ∷ rule.Known ∷ rule.Partition ∷ []
-forms_of symbol.Effect = rule.Move ∷ rule.MoveAll ∷ rule.Remember ∷ rule.Forget ∷ rule.Shuffle ∷ rule.Set ∷ rule.Increase ∷ rule.Decrease ∷ rule.If ∷ rule.Repeat ∷ rule.Each ∷ rule.Next ∷ rule.Reverse ∷ rule.Peek ∷ []
+forms_of symbol.Effect = rule.Move ∷ rule.MoveAll ∷ rule.Remember ∷ rule.Forget ∷ rule.Shuffle ∷ rule.Set
+    ∷ rule.Increase ∷ rule.Decrease ∷ rule.If ∷ rule.Repeat ∷ rule.Each ∷ rule.Next ∷ rule.Reverse ∷ rule.Peek ∷ []
 forms_of symbol.Spot = rule.TopOf ∷ rule.BottomOf ∷ []
 forms_of symbol.Location = rule.Location ∷ []
 forms_of symbol.Counter = rule.Counter ∷ []
@@ -43,8 +44,11 @@ forms_of symbol.Card = rule.TopCard ∷ rule.BottomCard ∷ rule.MaxCard ∷ rul
 forms_of symbol.Collection = rule.Location ∷ rule.Filter ∷ rule.Union ∷ rule.Known ∷ []
 forms_of symbol.Members = rule.Location ∷ rule.Filter ∷ rule.Union ∷ rule.Known ∷ []
 forms_of symbol.Integer = rule.Counter ∷ rule.Size ∷ rule.Sum ∷ rule.PointsOf ∷ rule.Plus ∷ rule.Minus ∷ rule.Times ∷ []
-forms_of symbol.Test = rule.Equal ∷ rule.NotEqual ∷ rule.Less ∷ rule.LessOrEqual ∷ rule.More ∷ rule.MoreOrEqual ∷ rule.Is ∷ rule.And ∷ rule.Or ∷ rule.Not ∷ rule.ForAll ∷ rule.ForAny ∷ []
-forms_of symbol.Side = rule.Counter ∷ rule.Size ∷ rule.Sum ∷ rule.PointsOf ∷ rule.Plus ∷ rule.Minus ∷ rule.Times ∷ rule.TopCard ∷ rule.BottomCard ∷ rule.MaxCard ∷ rule.MinCard ∷ rule.CurrentPlayer ∷ rule.CurrentTeam ∷ rule.TeamOf ∷ rule.AttributeOf ∷ []
+forms_of symbol.Test = rule.Equal ∷ rule.NotEqual ∷ rule.Less ∷ rule.LessOrEqual ∷ rule.More ∷ rule.MoreOrEqual
+    ∷ rule.Is ∷ rule.And ∷ rule.Or ∷ rule.Not ∷ rule.ForAll ∷ rule.ForAny ∷ []
+forms_of symbol.Side = rule.Counter ∷ rule.Size ∷ rule.Sum ∷ rule.PointsOf ∷ rule.Plus ∷ rule.Minus ∷ rule.Times
+    ∷ rule.TopCard ∷ rule.BottomCard ∷ rule.MaxCard ∷ rule.MinCard ∷ rule.CurrentPlayer ∷ rule.CurrentTeam ∷ rule.TeamOf
+    ∷ rule.AttributeOf ∷ []
 
 -- The places of the first parts of each form.
 abbrev pub front_of : Rule → List Symbol

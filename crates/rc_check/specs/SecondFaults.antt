@@ -115,7 +115,8 @@ is_other_sort sorts (Some variable) = not (list_any (same_sort variable.sort) so
 
 abbrev pub is_misused : Standing → List ℕ → Bool
 is_misused at bytes =
-    is_variable bytes && some_of (sorts_at at.place) && is_other_sort (sorts_at at.place) (variable_in at.around.scope bytes)
+    is_variable bytes && some_of (sorts_at at.place) && is_other_sort (sorts_at at.place)
+    (variable_in at.around.scope bytes)
 
 -- two sides are the same
 abbrev pub same_side : SideSort → SideSort → Bool

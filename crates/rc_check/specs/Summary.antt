@@ -63,7 +63,8 @@ or_number None other = Some other
 
 -- what is known behind a part
 abbrev pub know_form : Whole → Rule → Trees → Whole
-know_form known rule.CreatePlayers parts = record known { players = or_number known.players (number_at (part_at 2 parts)) }
+know_form known rule.CreatePlayers parts =
+    record known { players = or_number known.players (number_at (part_at 2 parts)) }
 know_form known rule.CreateTeams parts = record known { teams = or_number known.teams (count parts - 2) }
 know_form known rule.CreateDeck parts = record known { has_deck = true }
 know_form known rule.Group parts = record known { attributes = with_word known.attributes (word_in 0 parts) }
@@ -271,7 +272,8 @@ is_form_over whole seen rule parts = false
 
 abbrev pub is_over : Whole → Summary → Part → Bool
 is_over whole seen (atom at bytes from) = is_value_over seen at.role bytes
-is_over whole seen (form at rule parts from) = is_form_over whole seen rule parts || is_too_deep (form at rule parts from)
+is_over whole seen (form at rule parts from) =
+    is_form_over whole seen rule parts || is_too_deep (form at rule parts from)
 
 -- NO CARDS
 abbrev pub is_setup_without_deck : Whole → Part → Bool

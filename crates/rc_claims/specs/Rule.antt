@@ -43,7 +43,8 @@ IsKept limits s = (word : ℕ) × (s.words ≡ word ∷ []) × IsClaimedOnce lim
 
 -- A claim adds the number found, which is at least as large as there were numbers in the view.
 abbrev pub Draws : Step (Unit {0}) → Me (Unit {0}) PassView → ℕ → Me (Unit {0}) PassView → Type 0
-Draws s me found after = (after ≡ (pass_view me.0.holders (me.0.numbers ++ found ∷ []), me.1)) × (length me.0.numbers ≤ found)
+Draws s me found after =
+    (after ≡ (pass_view me.0.holders (me.0.numbers ++ found ∷ []), me.1)) × (length me.0.numbers ≤ found)
 
 -- A split gives the first holder to a new view, which has claimed nothing.
 abbrev pub behind_first : PassView → PassView

@@ -177,7 +177,8 @@ abbrev mutual
   of_test : Test → Gv
   of_test (eq_int left right) = gcons nought (gcons (of_int left) (of_int right))
   of_test (eq_card left right) = gcons one (gcons (of_card left) (of_card right))
-  of_test (eq_attr left attr right attr') = gcons two (gcons (of_card left) (gcons (gnum attr) (gcons (of_card right) (gnum attr'))))
+  of_test (eq_attr left attr right attr') =
+      gcons two (gcons (of_card left) (gcons (gnum attr) (gcons (of_card right) (gnum attr'))))
   of_test (eq_who left right) = gcons three (gcons (of_who left) (of_who right))
   of_test (ne inner) = gcons four (of_test inner)
   of_test (less left right) = gcons five (gcons (of_int left) (of_int right))
@@ -236,7 +237,8 @@ abbrev mutual
   to_test : Gv → Test
   to_test (gcons nought (gcons left right)) = eq_int (to_int left) (to_int right)
   to_test (gcons one (gcons left right)) = eq_card (to_card left) (to_card right)
-  to_test (gcons two (gcons left (gcons (gnum attr) (gcons right (gnum attr'))))) = eq_attr (to_card left) attr (to_card right) attr'
+  to_test (gcons two (gcons left (gcons (gnum attr) (gcons right (gnum attr'))))) =
+      eq_attr (to_card left) attr (to_card right) attr'
   to_test (gcons three (gcons left right)) = eq_who (to_who left) (to_who right)
   to_test (gcons four inner) = ne (to_test inner)
   to_test (gcons five (gcons left right)) = less (to_int left) (to_int right)
@@ -331,7 +333,8 @@ abbrev mutual
   of_effect (decrease num value) = gcons seven (gcons (of_num num) (of_int value))
   of_effect (when guard effects) = gcons eight (gcons (of_test guard) (of_effects effects))
   of_effect (repeat count effects) = gcons nine (gcons (of_int count) (of_effects effects))
-  of_effect (for_each domain bound effects) = gcons ten (gcons (of_domain domain) (gcons (gnum bound) (of_effects effects)))
+  of_effect (for_each domain bound effects) =
+      gcons ten (gcons (of_domain domain) (gcons (gnum bound) (of_effects effects)))
   of_effect (next_is who) = gcons eleven (of_who who)
   of_effect turn_round = gcons twelve gnil
   of_effect (peek cards who) = gcons thirteen (gcons (of_coll cards) (of_who who))
@@ -352,7 +355,8 @@ abbrev mutual
   to_effect (gcons seven (gcons num value)) = decrease (to_num num) (to_int value)
   to_effect (gcons eight (gcons guard effects)) = when (to_test guard) (to_effects effects)
   to_effect (gcons nine (gcons count effects)) = repeat (to_int count) (to_effects effects)
-  to_effect (gcons ten (gcons domain (gcons (gnum bound) effects))) = for_each (to_domain domain) bound (to_effects effects)
+  to_effect (gcons ten (gcons domain (gcons (gnum bound) effects))) =
+      for_each (to_domain domain) bound (to_effects effects)
   to_effect (gcons eleven who) = next_is (to_who who)
   to_effect (gcons twelve gnil) = turn_round
   to_effect (gcons thirteen (gcons cards who)) = peek (to_coll cards) (to_who who)
@@ -419,7 +423,8 @@ same_alts (alt ∷ alts) = λ i. same_alt alt i ∷ same_alts alts i
 abbrev mutual
   of_item : SheetItem → Gv
   of_item (do_item effects) = gcons nought (of_effects effects)
-  of_item (stage n class end body) = gcons one (gcons (gnum n) (gcons (of_class class) (gcons (of_test end) (of_items body))))
+  of_item (stage n class end body) =
+      gcons one (gcons (gnum n) (gcons (of_class class) (gcons (of_test end) (of_items body))))
   of_item (choice site alts) = gcons two (gcons (gnum site) (of_alts alts))
 
   of_items : SheetItems → Gv
@@ -429,7 +434,8 @@ abbrev mutual
 abbrev mutual
   to_item : Gv → SheetItem
   to_item (gcons nought effects) = do_item (to_effects effects)
-  to_item (gcons one (gcons (gnum n) (gcons class (gcons end body)))) = stage n (to_class class) (to_test end) (to_items body)
+  to_item (gcons one (gcons (gnum n) (gcons class (gcons end body)))) =
+      stage n (to_class class) (to_test end) (to_items body)
   to_item (gcons two (gcons (gnum site) alts)) = choice site (to_alts alts)
   to_item code = do_item no_effect
 

@@ -62,7 +62,8 @@ pub record IsFaultyBehind (want : ℕ) (all before : List Token) (kind : FormKin
 -- none of the first `count` tokens is faulty
 abbrev pub NoneFaultyBelow : ℕ → List Token → ℕ → Type 0
 NoneFaultyBelow want all count =
-    (before : List Token) (kind : FormKind) (at : ℕ) → length before < count → IsFaultyBehind want all before kind at → ⊥
+    (before : List Token) (kind : FormKind) (at : ℕ) → length before < count →
+    IsFaultyBehind want all before kind at → ⊥
 
 -- the first faulty token has this kind and this offset
 pub record IsFirstFaulty (want : ℕ) (all : List Token) (kind : FormKind) (at : ℕ) : Type 0 where

@@ -96,7 +96,8 @@ module _ (about : About) (dealing : ℕ → Dealing ℕ) (plan : Plan) where
   -- what the choices of the matches from match m on bind, match by match
   abbrev pub lists_over : (m : ℕ) → List Record → List (List (List PureBound))
   lists_over m [] = []
-  lists_over m (r ∷ matches) = marks_from about dealing plan m (play_after about dealing plan m []) r.picks ∷ lists_over (m + 1) matches
+  lists_over m (r ∷ matches) =
+      marks_from about dealing plan m (play_after about dealing plan m []) r.picks ∷ lists_over (m + 1) matches
 
 -- ---- a text that is judged and named
 

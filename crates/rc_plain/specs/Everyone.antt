@@ -17,4 +17,5 @@ number_of sheet name player = place_among sheet player_class (map (λ (num : Num
 
 -- the table with a member's number set to a value
 abbrev pub set_for : Sheet → ℕ → ℤ → Table → Bind CardValue → Table
-set_for sheet name value table member = if_some (change (λ old new. new) value) (number_of sheet name (player_of (Some member))) table
+set_for sheet name value table member =
+    if_some (change (λ old new. new) value) (number_of sheet name (player_of (Some member))) table

@@ -41,7 +41,8 @@ count_faults (From first count at) = fault_unless (is_countable first.deal first
 
 -- not too many matches are listed, and all their turns are not too many
 abbrev pub are_few : Said → ℕ → Bool
-are_few (Listed deals) turns = nat_le (length deals.items) most_matches && nat_le (length deals.items * turns) most_turns_in_all
+are_few (Listed deals) turns =
+    nat_le (length deals.items) most_matches && nat_le (length deals.items * turns) most_turns_in_all
 are_few (From first count at) turns = nat_le (count * turns) most_turns_in_all
 
 -- the faults of what the parts say together, for so many players

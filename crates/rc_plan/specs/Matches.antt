@@ -18,7 +18,8 @@ IsMatch alone (From first count) form = (alone ≡ true) × IsFrom (deal_seen fi
 -- what the parts behind `matches` say
 abbrev pub AreMatchParts : Matches → Trees → Type 0
 AreMatchParts (Listed deals) parts = InTurn IsDeal (map deal_seen deals.items) parts
-AreMatchParts (CountedFrom first count at) parts = ((λ form. IsFrom (deal_seen first) count form × (start_of form ≡ at)) ▸ End) parts
+AreMatchParts (CountedFrom first count at) parts =
+    ((λ form. IsFrom (deal_seen first) count form × (start_of form ≡ at)) ▸ End) parts
 
 abbrev pub AreMatches : Matches → Tree → Type 0
 AreMatches matches = Row (Atom "matches" ▸ Some (AreMatchParts matches))

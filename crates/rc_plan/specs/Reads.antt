@@ -69,6 +69,7 @@ IsRollout rounds key = IsNumberBetween 1 most_rounds rounds ▸ IsAnyNumber key 
 
 -- Parts are read in turn: what was read stands for the parts so far, so that whatever stands for those that are left stands
 -- behind it for all; and no part so far is at fault.
-pub record IsReadSoFar {A : Type 0} (Stands : A → Tree → Type 0) (place : Place) (done : List A) (left all : Trees) : Type 0 where
+pub record IsReadSoFar {A : Type 0} (Stands : A → Tree → Type 0) (place : Place) (done : List A)
+    (left all : Trees) : Type 0 where
   pub stands : (later : List A) → InTurn Stands later left → InTurn Stands (done ++ later) all
   pub faults : each place left ≡ each place all

@@ -25,8 +25,10 @@ marked_in shape marks seat k (Some ids) = option_map (marked_face shape marks se
 pub record IsAlike (shape : Shape) (seat : ℕ) (table table' : Table) (control control' : Control) : Type 0 where
   pub controls : control ≡ control'
   pub numbers : table.numbers ≡ table'.numbers
-  pub lengths : (loc : ℕ) → option_map (λ ids. length ids) (slice_get table.lists loc) ≡ option_map (λ ids. length ids) (slice_get table'.lists loc)
+  pub lengths : (loc : ℕ) → option_map (λ ids. length ids) (slice_get table.lists loc)
+      ≡ option_map (λ ids. length ids) (slice_get table'.lists loc)
   pub faces : (loc k : ℕ) → sees shape seat loc ≡ true →
       face_in shape k (slice_get table.lists loc) ≡ face_in shape k (slice_get table'.lists loc)
   pub marks : (loc k : ℕ) → sees shape seat loc ≡ false →
-      marked_in shape table.marks seat k (slice_get table.lists loc) ≡ marked_in shape table'.marks seat k (slice_get table'.lists loc)
+      marked_in shape table.marks seat k (slice_get table.lists loc)
+      ≡ marked_in shape table'.marks seat k (slice_get table'.lists loc)

@@ -41,7 +41,8 @@ told_along n at shuffles = if shuffles == 0 then Ok n else on_row n (shuffled_ro
 -- the score lines of a match from the k-th on: the line behind them
 abbrev pub scores_along : About → ℕ → Option (Stopped ℕ) → (k : ℕ) → List Score → Judging ℕ
 scores_along about n at k [] = Ok n
-scores_along about n at k (s ∷ scores) = on_row n (scored_row about at k s) (scores_along about (n + 1) at (k + 1) scores)
+scores_along about n at k (s ∷ scores) =
+    on_row n (scored_row about at k s) (scores_along about (n + 1) at (k + 1) scores)
 
 -- what a record tells behind its choices, where the play stands at a stop: the line behind it
 abbrev pub end_along : About → ℕ → Option (Stopped ℕ) → Record → Judging ℕ
@@ -85,27 +86,33 @@ module _ (about : About) (dealing : ℕ → Dealing ℕ) (plan : Plan) where
   abbrev pub picks_along : (m n : ℕ) → Option (Stopped ℕ) → List (List Bound) → List Pick → Judging Picked
   picks_along m n at marks [] = Ok (n, at, marks)
   picks_along m n at marks (p ∷ picks) =
-      on_row n (chosen_row about at p (first_marks marks)) (picks_along m (n + 1) (next_stop m at p) (later_marks marks) picks)
+      on_row n (chosen_row about at p (first_marks marks))
+      (picks_along m (n + 1) (next_stop m at p) (later_marks marks) picks)
 
   -- match m behind its first line: the line behind it, and the marks that are left
   abbrev pub body_along : (m n : ℕ) → Option (Stopped ℕ) → List (List Bound) → Record → Judging (ℕ × List (List Bound))
   body_along m n at marks r =
-      and_then (picks_along m n at marks r.picks) (λ played. and_then (end_along about played.0 played.1 r) (λ n'. Ok (n', played.2)))
+      and_then (picks_along m n at marks r.picks)
+      (λ played. and_then (end_along about played.0 played.1 r) (λ n'. Ok (n', played.2)))
 
   -- match m: the same
   abbrev pub record_along : (m n : ℕ) → List (List Bound) → Record → Judging (ℕ × List (List Bound))
   record_along m n marks r =
-      on_row n (opening_row plan m r.number r.deal r.seats) (body_along m (n + 1) (play_after about dealing plan m []) marks r)
+      on_row n (opening_row plan m r.number r.deal r.seats)
+      (body_along m (n + 1) (play_after about dealing plan m []) marks r)
 
   -- the matches from match m on; whether a match lacks score lines is asked at the line behind it
   abbrev pub matches_along : (m n : ℕ) → List (List Bound) → List Record → Judging ℕ
   matches_along m n marks [] = Ok n
   matches_along m n marks (r ∷ matches) =
-      and_then (record_along m n marks r) (λ next. on_row next.0 (lacking_row about r) (matches_along (m + 1) next.0 next.1 matches))
+      and_then (record_along m n marks r)
+      (λ next. on_row next.0 (lacking_row about r) (matches_along (m + 1) next.0 next.1 matches))
 
   -- the whole text behind a head of so many lines
   abbrev pub judged : (head : ℕ) → NamedText → Option Illegal
-  judged head n = or_illegal (matches_along 0 (head + 1) n.marks n.text.matches) (λ at. standings_along plan at n.text.matches 0 n.text.standings)
+  judged head n =
+      or_illegal (matches_along 0 (head + 1) n.marks n.text.matches)
+      (λ at. standings_along plan at n.text.matches 0 n.text.standings)
 
   -- ---- the marks of a text
 

@@ -45,7 +45,8 @@ abbrev pub marks_in : (most : ℕ) → List ℕ → Option (List Bound)
 marks_in zero [] = Some []
 marks_in zero (b ∷ bytes) = None
 marks_in (suc most) [] = Some []
-marks_in (suc most) (b ∷ bytes) = mark_in (b ∷ bytes) >>= λ mark. marks_in most mark.1 >>= λ marks. Some (mark.0 ∷ marks)
+marks_in (suc most) (b ∷ bytes) =
+    mark_in (b ∷ bytes) >>= λ mark. marks_in most mark.1 >>= λ marks. Some (mark.0 ∷ marks)
 
 -- ---- compared
 

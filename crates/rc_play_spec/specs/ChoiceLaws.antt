@@ -34,19 +34,23 @@ TotalsBounded =
 -- a strategy chooses one of the items
 abbrev pub ChoosesItems : Type 0
 ChoosesItems =
-    (about : About) (strategy : Strategy) (seed : ℕ) (view : View) → 0 < menu_size about view → choice_of about strategy seed view < menu_size about view
+    (about : About) (strategy : Strategy) (seed : ℕ) (view : View) → 0 < menu_size about view →
+    choice_of about strategy seed view < menu_size about view
 
 -- how many items the mover has is a function of its view
 abbrev pub SizeOfView : Type 0
 SizeOfView =
-    (about : About) (site : ℕ) (table : Table) (control : Control) → about.shape ≡ shape_of about.sheet → IsInSight about.sheet →
+    (about : About) (site : ℕ) (table : Table) (control : Control) → about.shape ≡ shape_of about.sheet →
+    IsInSight about.sheet →
     control.site ≡ Some site →
-    length (menu_at about site table control) ≡ menu_size about (view_of about.shape (mover about.sheet control.frames) table control)
+    length (menu_at about site table control)
+    ≡ menu_size about (view_of about.shape (mover about.sheet control.frames) table control)
 
 -- and it is that in the table that the view is redrawn to by the key of zeros, or by any other
 abbrev pub SizeRedrawn : Type 0
 SizeRedrawn =
-    (about : About) (site : ℕ) (view : View) (key : List ℕ) → about.shape ≡ shape_of about.sheet → IsInSight about.sheet →
+    (about : About) (site : ℕ) (view : View) (key : List ℕ) → about.shape ≡ shape_of about.sheet →
+    IsInSight about.sheet →
     IsViewOfSound about.shape view → view.seat ≡ mover about.sheet view.control.frames → view.control.site ≡ Some site →
     menu_size about view ≡ length (menu_at about site (redraw about.shape view key) view.control)
 
@@ -54,7 +58,8 @@ SizeRedrawn =
 -- stand in.
 abbrev pub AlikeSameChoice : Type 0
 AlikeSameChoice =
-    (about : About) (plan plan' : Plan) (m m' seat site site' k k' : ℕ) (table table' : Table) (control control' : Control) →
+    (about : About) (plan plan' : Plan) (m m' seat site site' k k' : ℕ) (table table' : Table)
+    (control control' : Control) →
     IsAlike about.shape seat table table' control control' → strategy_at plan m seat ≡ strategy_at plan' m' seat →
     (deal_at plan m).seats ≡ (deal_at plan' m').seats →
     (chooser_of about plan m seat site table control k).0 ≡ (chooser_of about plan' m' seat site' table' control' k').0

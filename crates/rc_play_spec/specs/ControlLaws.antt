@@ -17,7 +17,8 @@ use Rattle.rc_play_spec.specs.Fits.{FitsSite}
 abbrev pub ControlsFit : Type 0
 ControlsFit =
     (about : About) (dealing : Dealing ℕ) → about.shape ≡ shape_of about.sheet → IsWellFormed about.sheet →
-    (items : List ℕ) (k : ℕ) (at : Stopped ℕ) (seat site : ℕ) → reached about dealing items k ≡ Some at → at.stop ≡ decide seat site →
+    (items : List ℕ) (k : ℕ) (at : Stopped ℕ) (seat site : ℕ) → reached about dealing items k ≡ Some at →
+    at.stop ≡ decide seat site →
     FitsSite about site at.config.control
 
 -- In a well formed sheet at most 63 stages stand inside one another.
@@ -27,17 +28,20 @@ StagesAreFew = (sheet : Sheet) → IsWellFormed sheet → items_depth sheet.item
 -- So many stages are open at a place of a sheet, and so many stand inside one another in the item there.
 abbrev pub PathsAreShallow : Type 0
 PathsAreShallow =
-    (sheet : Sheet) (path : Path) (i : SheetItem) → IsWellFormed sheet → next_item (item_list sheet.items) path ≡ Some i →
+    (sheet : Sheet) (path : Path) (i : SheetItem) → IsWellFormed sheet →
+    next_item (item_list sheet.items) path ≡ Some i →
     length path.outer + item_depth i ≤ 63
 
 -- and in a match no more are open wherever items lead
 abbrev pub FramesAreFew : Type 0
 FramesAreFew =
     (about : About) (dealing : Dealing ℕ) → IsWellFormed about.sheet →
-    (items : List ℕ) (k : ℕ) (at : Stopped ℕ) → reached about dealing items k ≡ Some at → length at.config.control.frames ≤ 63
+    (items : List ℕ) (k : ℕ) (at : Stopped ℕ) → reached about dealing items k ≡ Some at →
+    length at.config.control.frames ≤ 63
 
 -- Wherever items lead, the turn count is at most the turn limit.
 abbrev pub TurnsAreWithin : Type 0
 TurnsAreWithin =
-    (about : About) (dealing : Dealing ℕ) (items : List ℕ) (k : ℕ) (at : Stopped ℕ) → reached about dealing items k ≡ Some at →
+    (about : About) (dealing : Dealing ℕ) (items : List ℕ) (k : ℕ) (at : Stopped ℕ) →
+    reached about dealing items k ≡ Some at →
     at.config.control.turn ≤ about.turns

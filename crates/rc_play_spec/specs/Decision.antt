@@ -28,12 +28,19 @@ left_at sheet site = slice_index_or (left_in site sheet.items []) 0 []
 
 -- the configuration at a control's site, which each control of a decision has
 abbrev pub at_site : About → Table → Control → Config
-at_site about table control = record { left = left_at about.sheet (unwrap_or control.site 0); table = table; control = control }
+at_site about table control =
+    record { left = left_at about.sheet (unwrap_or control.site 0); table = table; control = control }
 
 -- the control behind a decision of the seat: the site goes, and the turn count and the seat's count of decisions rise by one
 abbrev pub with_choice : ℕ → Control → Control
 with_choice seat c =
-    record { site = None; frames = c.frames; turn = c.turn + 1; made = slice_set c.made seat (slice_index c.made seat + 1) }
+    record {
+      site = None;
+      frames = c.frames;
+      turn = c.turn + 1;
+      made =
+          slice_set c.made seat (slice_index c.made seat + 1);
+    }
 
 module _ {S : Type 0} (about : About) (dealing : Dealing S) where
   -- what the effects of the x-th item of the menu do, with its variables bound
@@ -42,7 +49,8 @@ module _ {S : Type 0} (about : About) (dealing : Dealing S) where
       let scene = scene_at about table frames in
       let chosen = slice_index_or (menu_from scene alts) x (record { alt = 0; spots = [] }) in
       let alt = alt_in alts chosen.alt in
-      does about dealing (bindings_of scene [] alt chosen.spots) (effects_of alt) (record { table = table; frames = frames; dealer = dealer })
+      does about dealing (bindings_of scene [] alt chosen.spots) (effects_of alt)
+      (record { table = table; frames = frames; dealer = dealer })
 
   abbrev pub choose_first : S → ℕ → List Part → Table → Control → Next S
   choose_first dealer x (todo (choice site alts) ∷ rest) table control =

@@ -64,4 +64,8 @@ pub record Draws : Type 0 where
 
 -- what those keys do give
 abbrev pub keyed : Draws
-keyed = record { pick = λ a b c d n. pick_of (key32 a b c d) n; order = λ a b c d size. permuted (key32 a b c d) (below size) }
+keyed = record {
+  pick = λ a b c d n. pick_of (key32 a b c d) n;
+  order =
+      λ a b c d size. permuted (key32 a b c d) (below size);
+}

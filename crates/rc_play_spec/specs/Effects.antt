@@ -69,11 +69,13 @@ is_named shape team_class owner seat = owner == team_at shape seat
 -- the marks of a card, and of these seats those that don't see its location
 abbrev pub joined : Shape → (ℕ → Bool) → ℕ → List ℕ → List ℕ
 joined shape named loc seats =
-    filter (λ seat. list_any (λ other. other == seat) seats || (named seat && not (sees shape seat loc))) (below shape.players)
+    filter (λ seat. list_any (λ other. other == seat) seats || (named seat && not (sees shape seat loc)))
+    (below shape.players)
 
 -- A card is shown to these seats; of a reference nothing is shown.
 abbrev pub show_card : Shape → (ℕ → Bool) → Table → CardValue → Table
-show_card shape named table (held id) = set_marks id (joined shape named (loc_of shape table id) (marks_of table.marks id)) table
+show_card shape named table (held id) =
+    set_marks id (joined shape named (loc_of shape table id) (marks_of table.marks id)) table
 show_card shape named table (noted from id) = table
 
 -- the innermost stage of the class has this member named, whoever was named before
@@ -81,7 +83,8 @@ abbrev pub with_named : ℕ → Frame → Frame
 with_named member frame = record { stage = frame.stage; member = frame.member; back = frame.back; named = Some member }
 
 abbrev pub named_next : Sheet → Class → ℕ → List Frame → List Frame
-named_next sheet class member frames = at_innermost (λ frame. is_stage_of sheet class frame.stage) (with_named member) frames
+named_next sheet class member frames =
+    at_innermost (λ frame. is_stage_of sheet class frame.stage) (with_named member) frames
 
 -- the innermost stage, of whatever class, goes the other way round
 abbrev pub turned_back : Frame → Frame
@@ -119,19 +122,26 @@ module _ {S : Type 0} (about : About) (dealing : Dealing S) where
     pub does_one : Vars → Effect → Point S → Point S
     does_one vars (move card end loc) now =
         let scene = scene_now about now in
-        with_table now (if_some (λ at. if_some (λ c table. move_card about.shape end at table c) (card_value scene vars card)) (loc_place scene.known vars loc) now.table)
+        with_table now
+        (if_some (λ at. if_some (λ c table. move_card about.shape end at table c) (card_value scene vars card))
+        (loc_place scene.known vars loc) now.table)
     does_one vars (move_all cards end loc) now =
         let scene = scene_now about now in
-        with_table now (if_some (λ at table. fold (move_card about.shape end at) table (coll_value scene vars cards)) (loc_place scene.known vars loc) now.table)
+        with_table now
+        (if_some (λ at table. fold (move_card about.shape end at) table (coll_value scene vars cards))
+        (loc_place scene.known vars loc) now.table)
     does_one vars (remember card end loc) now =
         let scene = scene_now about now in
-        with_table now (if_some (λ at. if_some (λ c. note about.shape end (id_of c) at) (card_value scene vars card)) (loc_place scene.known vars loc) now.table)
+        with_table now
+        (if_some (λ at. if_some (λ c. note about.shape end (id_of c) at) (card_value scene vars card))
+        (loc_place scene.known vars loc) now.table)
     does_one vars (forget card) now =
         with_table now (if_some (forget_card about.shape) (card_value (scene_now about now) vars card) now.table)
     does_one vars (shuffle loc) now = if_some (shuffled dealing) (loc_place (scene_now about now).known vars loc) now
     does_one vars (set_to num value) now =
         let scene = scene_now about now in
-        with_table now (if_some (change (λ old new. new) (int_value scene vars value)) (num_place scene.known vars num) now.table)
+        with_table now
+        (if_some (change (λ old new. new) (int_value scene vars value)) (num_place scene.known vars num) now.table)
     does_one vars (increase num value) now =
         let scene = scene_now about now in
         with_table now (if_some (change ◌+ℤ◌ (int_value scene vars value)) (num_place scene.known vars num) now.table)
@@ -140,7 +150,8 @@ module _ {S : Type 0} (about : About) (dealing : Dealing S) where
         with_table now (if_some (change ◌-ℤ◌ (int_value scene vars value)) (num_place scene.known vars num) now.table)
     does_one vars (when t effects) now =
         let after = does vars effects now in if test_value (scene_now about now) vars t then after else now
-    does_one vars (repeat count effects) now = again (times (int_value (scene_now about now) vars count)) (does vars effects) now
+    does_one vars (repeat count effects) now =
+        again (times (int_value (scene_now about now) vars count)) (does vars effects) now
     does_one vars (for_each domain bound effects) now =
         fold (λ mid member. does (vars ++ member ∷ []) effects mid) now (members (scene_now about now) vars domain)
     does_one vars (next_is who) now =
@@ -149,7 +160,9 @@ module _ {S : Type 0} (about : About) (dealing : Dealing S) where
     does_one vars turn_round now = at_frames now (turned now.frames)
     does_one vars (peek cards who) now =
         let scene = scene_now about now in
-        with_table now (fold (show_card about.shape (is_named about.shape (class_of who) (who_value scene.known vars who))) now.table (coll_value scene vars cards))
+        with_table now
+        (fold (show_card about.shape (is_named about.shape (class_of who) (who_value scene.known vars who)))
+        now.table (coll_value scene vars cards))
 
     pub does : Vars → Effects → Point S → Point S
     does vars no_effect now = now

@@ -18,12 +18,14 @@ behind (w ∷ word) (b ∷ bytes) = if b == w then behind word bytes else None
 abbrev pub digits_to : (most n : ℕ) → List ℕ → Option (ℕ × List ℕ)
 digits_to most n [] = Some (n, [])
 digits_to most n (b ∷ bytes) =
-    if is_digit b then if nat_le (n * 10 + (b - 48)) most then digits_to most (n * 10 + (b - 48)) bytes else None else Some (n, b ∷ bytes)
+    if is_digit b then if nat_le (n * 10 + (b - 48)) most then digits_to most (n * 10 + (b - 48)) bytes else None
+    else Some (n, b ∷ bytes)
 
 -- A number of at most `most` in its one spelling: behind a `0` no further digit belongs to it.
 abbrev pub number_to : (most : ℕ) → List ℕ → Option (ℕ × List ℕ)
 number_to most [] = None
-number_to most (b ∷ bytes) = if b == 48 then Some (0, bytes) else if is_digit b then digits_to most 0 (b ∷ bytes) else None
+number_to most (b ∷ bytes) =
+    if b == 48 then Some (0, bytes) else if is_digit b then digits_to most 0 (b ∷ bytes) else None
 
 -- a number of at least 1
 abbrev pub at_least_one : ℕ × List ℕ → Option (ℕ × List ℕ)

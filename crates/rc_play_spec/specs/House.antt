@@ -15,7 +15,8 @@ points_at r seat = slice_index (map (λ s. s.points) r.scores) seat
 -- the rank points of the seat that had the strategy in a match
 abbrev pub points_in : Plan → ℕ → Record → ℕ
 points_in plan strategy r =
-    sum_by (points_at r) (filter (λ seat. strategy_held plan r.number seat == strategy) (below (length plan.strategies)))
+    sum_by (points_at r)
+    (filter (λ seat. strategy_held plan r.number seat == strategy) (below (length plan.strategies)))
 
 -- the points of each strategy: the sum over all matches, those that the turn limit ended too
 abbrev pub points_of : Plan → List Record → List ℕ
@@ -35,12 +36,14 @@ rank_of points strategy =
 -- the place is one plus the number of strategies with more points
 abbrev pub standing_of : List ℕ → ℕ → Standing
 standing_of points strategy =
-    let most = slice_index points strategy in record { place = 1 + ahead points most; strategy = strategy; points = most }
+    let most =
+    slice_index points strategy in record { place = 1 + ahead points most; strategy = strategy; points = most }
 
 -- the standings in order: at each rank the strategy that has it
 abbrev pub in_order : List ℕ → List Standing
 in_order points =
-    flat_map (λ rank. map (standing_of points) (filter (λ strategy. rank_of points strategy == rank) (below (length points)))) (below (length points))
+    flat_map (λ rank. map (standing_of points)
+    (filter (λ strategy. rank_of points strategy == rank) (below (length points)))) (below (length points))
 
 abbrev pub standings_of : Plan → List Record → List Standing
 standings_of plan records = in_order (points_of plan records)

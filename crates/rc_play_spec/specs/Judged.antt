@@ -45,7 +45,8 @@ module _ (about : About) (dealing : ℕ → Dealing ℕ) (plan : Plan) where
   -- can't stand there by the grammar.
   abbrev pub row_at : Place → Option (Stopped ℕ) → Line → Option (List Bound) → Option Why
   row_at headed at (opening n deal seats) marks = opening_row plan 0 n deal seats
-  row_at (scoring before r) at (opening n deal seats) marks = lacking_row about r or opening_row plan (length before + 1) n deal seats
+  row_at (scoring before r) at (opening n deal seats) marks =
+      lacking_row about r or opening_row plan (length before + 1) n deal seats
   row_at (playing before r) at (chosen p) marks = chosen_row about at p marks
   row_at (playing before r) at (shuffled n) marks = shuffled_row at n
   row_at (playing before r) at (ending e turn) marks = ending_row at r.shuffles e turn

@@ -37,7 +37,13 @@ module _ (about : About) (dealing : ℕ → Dealing ℕ) (plan : Plan) where
     pub leads : Leads about (dealing (deal_at plan m).deal) r.picks first end
     pub stop : end.stop ≡ stop_for r.ending
     pub tells : r ≡ record_of about m (deal_at plan m).deal (deal_at plan m).seats
-        (record { picks = r.picks; ending = r.ending; table = end.config.table; control = end.config.control; dealer = end.dealer })
+        (record {
+          picks = r.picks;
+          ending = r.ending;
+          table = end.config.table;
+          control = end.config.control;
+          dealer = end.dealer;
+        })
 
   -- records of plays of the matches from match m on
   abbrev pub AreRecords : (m : ℕ) → List Record → Type 0

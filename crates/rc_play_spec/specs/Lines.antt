@@ -134,7 +134,8 @@ ranked_in bytes = do
 -- every other line
 abbrev pub other_in : List ℕ → Option Line
 other_in bytes =
-    opening_in bytes or_else shuffled_in bytes or_else done_in bytes or_else limit_in bytes or_else scored_in bytes or_else ranked_in bytes
+    opening_in bytes or_else shuffled_in bytes or_else done_in bytes or_else limit_in bytes or_else scored_in bytes
+    or_else ranked_in bytes
 
 -- the line that bytes spell, in a text that names what items bind or in one that doesn't
 abbrev pub line_of : (named : Bool) → List ℕ → Option Marked

@@ -15,7 +15,8 @@ module _ {C : Type 0} (scene : Scene C) where
   -- an alternative's place and what it offers
   abbrev pub OffersOne : List Alt → List ℕ → Type 0
   OffersOne alts path =
-      (k : ℕ) × (alt : Alt) × (spots : List ℕ) × (path ≡ k ∷ spots) × (slice_get alts k ≡ Some alt) × Offers [] alt spots
+      (k : ℕ) × (alt : Alt) × (spots : List ℕ) × (path ≡ k ∷ spots) × (slice_get alts k ≡ Some alt)
+      × Offers [] alt spots
 
   -- all that is offered and nothing else, in the order of a dictionary
   pub record AreOffers (alts : List Alt) (paths : List (List ℕ)) : Type 0 where

@@ -36,7 +36,8 @@ frames_of sheet class frames = filter (λ frame. is_stage_of sheet class frame.s
 
 -- the current member of the innermost stage of this class, and 0 where there is none
 abbrev pub current_in : Sheet → Class → List Frame → ℕ
-current_in sheet class frames = unwrap_or (option_map (λ (frame : Frame). frame.member) (last_of (frames_of sheet class frames))) 0
+current_in sheet class frames =
+    unwrap_or (option_map (λ (frame : Frame). frame.member) (last_of (frames_of sheet class frames))) 0
 
 -- the mover of a choice is the current player
 abbrev pub mover : Sheet → List Frame → ℕ

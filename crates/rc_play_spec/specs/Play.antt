@@ -72,7 +72,8 @@ module _ {S : Type 0} (about : About) (dealing : Dealing S) where
     played_on zero (decide seat site) c dealer = None
     played_on (suc more) (decide seat site) c dealer =
         let chosen = chooser seat site c.table c.control dealer in
-        option_map (with_pick (pick_at about seat site chosen.0 c)) (from_stop (played_on more) (stop_behind (choose about dealing chosen.1 chosen.0 c)))
+        option_map (with_pick (pick_at about seat site chosen.0 c))
+        (from_stop (played_on more) (stop_behind (choose about dealing chosen.1 chosen.0 c)))
 
     -- the whole play
     abbrev pub played : S → Option (Played S)

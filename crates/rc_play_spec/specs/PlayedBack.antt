@@ -31,28 +31,34 @@ PlayedIsHouseText = (about : About) (plan : Plan) → IsPlayable about plan → 
 
 -- and is read back off its bytes
 abbrev pub PlayedIsRead : Type 0
-PlayedIsRead = (about : About) (plan : Plan) → IsPlayable about plan → read_in plain (keyed_house_text about plan) ≡ Ok (unmarked (played_text about plan))
+PlayedIsRead = (about : About) (plan : Plan) → IsPlayable about plan →
+    read_in plain (keyed_house_text about plan) ≡ Ok (unmarked (played_text about plan))
 
 -- What is read off the bytes of a plan's house text is legal, and no line of it is illegal.
 abbrev pub PlayedIsJudgedLegal : Type 0
 PlayedIsJudgedLegal =
-    (about : About) (plan : Plan) → IsPlayable about plan → (n : NamedText) → read_in plain (keyed_house_text about plan) ≡ Ok n →
+    (about : About) (plan : Plan) → IsPlayable about plan → (n : NamedText) →
+    read_in plain (keyed_house_text about plan) ≡ Ok n →
     IsLegalText about dealing_of plan false n × (first_illegal about dealing_of plan 1 n ≡ None)
 
 -- A source of so many forms and nothing else, with an LF and a house text behind it, is read as the same forms, and its rest is that
 -- house text.
 abbrev pub PlayedStandsBehind : Type 0
 PlayedStandsBehind =
-    (about : About) (plan : Plan) (source : List ℕ) (want : ℕ) (forms : List Tree) → Spelled source want forms (length source) → length forms ≡ want →
+    (about : About) (plan : Plan) (source : List ℕ) (want : ℕ) (forms : List Tree) →
+    Spelled source want forms (length source) → length forms ≡ want →
     Spelled (source ++ 10 ∷ keyed_house_text about plan) want forms (length source + 1)
     × (drop (length source + 1) (source ++ 10 ∷ keyed_house_text about plan) ≡ keyed_house_text about plan)
 
 -- In either format what is played has a text, is read back off its bytes, and no line of it is illegal.
 pub record IsToldBack (named : Bool) (about : About) (plan : Plan) : Type 0 where
   pub text : IsText named (told_in named about plan (played_text about plan))
-  pub read : read_in (format_by named about) (house_text_in named about plan) ≡ Ok (told_in named about plan (played_text about plan))
-  pub passed : first_illegal about dealing_of plan (length (format_by named about).head) (told_in named about plan (played_text about plan)) ≡ None
+  pub read : read_in (format_by named about) (house_text_in named about plan)
+      ≡ Ok (told_in named about plan (played_text about plan))
+  pub passed : first_illegal about dealing_of plan (length (format_by named about).head)
+      (told_in named about plan (played_text about plan)) ≡ None
 
 abbrev pub PlayedIsToldBack : Type 0
 PlayedIsToldBack =
-    (named : Bool) (about : About) (plan : Plan) → IsPlayable about plan → length about.shape.faces ≤ most_cards → IsToldBack named about plan
+    (named : Bool) (about : About) (plan : Plan) → IsPlayable about plan → length about.shape.faces ≤ most_cards →
+    IsToldBack named about plan

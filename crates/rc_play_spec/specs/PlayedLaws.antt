@@ -16,7 +16,8 @@ use Rattle.rc_play_spec.specs.Legal.{IsLegalText}
 -- what a plan's keys make of its matches, as a value: their records, and the standings of these
 abbrev pub played_text : About → Plan → HouseText
 played_text about plan =
-    let records = records_of about dealing_of (choice_of about) plan in record { matches = records; standings = standings_of plan records }
+    let records = records_of about dealing_of (choice_of about) plan in
+    record { matches = records; standings = standings_of plan records }
 
 -- the marks that tell what the items of a legal text bind, one after the other over all matches
 abbrev pub bounds_of : About → Plan → HouseText → List (List Bound)
@@ -44,11 +45,13 @@ HouseTextIsPlayed = (about : About) (plan : Plan) → keyed_house_text about pla
 -- of the plan it asks nothing.
 abbrev pub PlayedIsLegal : Type 0
 PlayedIsLegal =
-    (named : Bool) (about : About) (plan : Plan) → about.shape ≡ shape_of about.sheet → IsInSight about.sheet → HasNumberedSites about.sheet →
+    (named : Bool) (about : About) (plan : Plan) → about.shape ≡ shape_of about.sheet → IsInSight about.sheet →
+    HasNumberedSites about.sheet →
     IsLegalText about dealing_of plan named (told_in named about plan (played_text about plan))
 
 -- and so the judge finds no illegal line in it
 abbrev pub PlayedIsPassed : Type 0
 PlayedIsPassed =
-    (named : Bool) (head : ℕ) (about : About) (plan : Plan) → about.shape ≡ shape_of about.sheet → IsInSight about.sheet → HasNumberedSites about.sheet →
+    (named : Bool) (head : ℕ) (about : About) (plan : Plan) → about.shape ≡ shape_of about.sheet →
+    IsInSight about.sheet → HasNumberedSites about.sheet →
     judged about dealing_of plan head (told_in named about plan (played_text about plan)) ≡ None

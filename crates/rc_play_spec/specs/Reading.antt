@@ -24,19 +24,57 @@ opened n deal seats =
 
 abbrev pub with_pick : Record → Pick → Record
 with_pick r p =
-    record { number = r.number; deal = r.deal; seats = r.seats; picks = r.picks ++ p ∷ []; shuffles = r.shuffles; ending = r.ending; turn = r.turn; scores = r.scores }
+    record {
+      number = r.number;
+      deal = r.deal;
+      seats = r.seats;
+      picks = r.picks ++ p ∷ [];
+      shuffles = r.shuffles;
+      ending = r.ending;
+      turn = r.turn;
+      scores = r.scores;
+    }
 
 abbrev pub with_shuffles : Record → ℕ → Record
 with_shuffles r n =
-    record { number = r.number; deal = r.deal; seats = r.seats; picks = r.picks; shuffles = n; ending = r.ending; turn = r.turn; scores = r.scores }
+    record {
+      number = r.number;
+      deal = r.deal;
+      seats = r.seats;
+      picks = r.picks;
+      shuffles = n;
+      ending = r.ending;
+      turn =
+          r.turn;
+      scores = r.scores;
+    }
 
 abbrev pub with_end : Record → Ending → ℕ → Record
 with_end r e turn =
-    record { number = r.number; deal = r.deal; seats = r.seats; picks = r.picks; shuffles = r.shuffles; ending = e; turn = turn; scores = r.scores }
+    record {
+      number = r.number;
+      deal = r.deal;
+      seats = r.seats;
+      picks = r.picks;
+      shuffles = r.shuffles;
+      ending = e;
+      turn = turn;
+      scores = r.scores;
+    }
 
 abbrev pub with_score : Record → Score → Record
 with_score r s =
-    record { number = r.number; deal = r.deal; seats = r.seats; picks = r.picks; shuffles = r.shuffles; ending = r.ending; turn = r.turn; scores = r.scores ++ s ∷ [] }
+    record {
+      number = r.number;
+      deal = r.deal;
+      seats = r.seats;
+      picks = r.picks;
+      shuffles = r.shuffles;
+      ending =
+          r.ending;
+      turn = r.turn;
+      scores = r.scores ++ s ∷ [];
+    }
 
 -- which line may stand where, and where the text stands behind it
 abbrev pub take_line : Place → Line → Option Place
@@ -76,7 +114,8 @@ take_bytes named (inside place marks) bytes = line_of named bytes >>= take_marke
 
 -- the text that ends here
 abbrev pub whole_at : Place → List (List Bound) → Option NamedText
-whole_at (ranking matches standings) marks = Some (record { text = record { matches = matches; standings = standings }; marks = marks })
+whole_at (ranking matches standings) marks =
+    Some (record { text = record { matches = matches; standings = standings }; marks = marks })
 whole_at _ marks = None
 
 abbrev pub whole : Stand → Option NamedText

@@ -86,7 +86,8 @@ abbrev pub filled : List Bool → List Sight → List ℕ → List ℕ → List 
 filled mems [] seen hidden = []
 filled [] (sight ∷ sights) seen hidden = [] ∷ filled [] sights seen hidden
 filled (m ∷ mems) (sight ∷ sights) seen hidden =
-    ids_at m sight seen hidden ∷ filled mems sights (drop (length (faces_at m sight)) seen) (drop (hidden_at m sight) hidden)
+    ids_at m sight seen hidden
+    ∷ filled mems sights (drop (length (faces_at m sight)) seen) (drop (hidden_at m sight) hidden)
 
 -- the first of `seen` that stand at known places of a location that isn't seen
 abbrev pub peeked_at : Bool → Sight → List ℕ → List ℕ
@@ -98,7 +99,8 @@ peeked_at false (partly os) seen = take (length (known_faces os)) seen
 abbrev pub peeked : List Bool → List Sight → List ℕ → List ℕ
 peeked mems [] seen = []
 peeked [] (sight ∷ sights) seen = []
-peeked (m ∷ mems) (sight ∷ sights) seen = peeked_at m sight seen ++ peeked mems sights (drop (length (faces_at m sight)) seen)
+peeked (m ∷ mems) (sight ∷ sights) seen =
+    peeked_at m sight seen ++ peeked mems sights (drop (length (faces_at m sight)) seen)
 
 -- Of so many cards those are marked for the seat, and for no other, and the others aren't marked.
 abbrev pub marks_for : ℕ → ℕ → List ℕ → List (List ℕ)
@@ -110,7 +112,8 @@ seen_of shape view = seen_ids shape [] (seen_faces (mems_of shape.places) view.s
 
 -- the marks of a view
 abbrev pub marks_seen : Shape → View → List (List ℕ)
-marks_seen shape view = marks_for (length shape.faces) view.seat (peeked (mems_of shape.places) view.sights (seen_of shape view))
+marks_seen shape view =
+    marks_for (length shape.faces) view.seat (peeked (mems_of shape.places) view.sights (seen_of shape view))
 
 -- the table where the card places that aren't known hold the other ids in this order
 abbrev pub redrawn : Shape → View → List ℕ → Table

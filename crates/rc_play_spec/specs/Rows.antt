@@ -48,7 +48,8 @@ lacking_row about r = unless (not (nat_lt (length r.scores) about.sheet.players)
 -- a match line where match m of the plan comes next, if there is one
 abbrev pub opening_row : Plan → (m number deal seats : ℕ) → Option Why
 opening_row plan m number deal seats =
-    unless (nat_lt m (length plan.matches) && number == m && deal == (deal_at plan m).deal && seats == (deal_at plan m).seats) by_match
+    unless (nat_lt m (length plan.matches) && number == m && deal == (deal_at plan m).deal
+    && seats == (deal_at plan m).seats) by_match
 
 -- ---- choose lines
 
@@ -56,7 +57,8 @@ abbrev pub decision_row : About → Pick → Stop → Config → Option Why
 decision_row about p is_done c = Some by_end
 decision_row about p is_limit c = Some by_end
 decision_row about p (decide seat site) c =
-    unless (p.seat == seat && p.site == site) by_seat or unless (p.size == length (menu_at about site c.table c.control)) by_menu
+    unless (p.seat == seat && p.site == site) by_seat or unless
+    (p.size == length (menu_at about site c.table c.control)) by_menu
     or unless (nat_lt p.item p.size) by_item
 
 abbrev pub stopped_row : About → Option (Stopped ℕ) → Pick → Option Why

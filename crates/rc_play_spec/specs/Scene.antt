@@ -40,6 +40,8 @@ scene_of sheet shape table frames =
     record {
       known = record { sheet = sheet; shape = shape; numbers = table.numbers; frames = frames };
       cards_at = λ n. map (value_in (holds_references (slice_get shape.places n)) n) (list_at table n);
-      known_at = λ n. map (value_in (holds_references (slice_get shape.places n)) n) (ids_seen shape table (mover sheet frames) n);
+      known_at =
+          λ n. map (value_in (holds_references (slice_get shape.places n)) n)
+          (ids_seen shape table (mover sheet frames) n);
       face = λ c. face_at shape (id_of c);
     }

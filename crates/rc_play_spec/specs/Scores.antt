@@ -23,7 +23,8 @@ scores_of about table control = map (score_of about table control) (below about.
 abbrev pub team_score : Sheet → List ℤ → ℕ → ℤ
 team_score sheet scores team =
     fold ◌+ℤ◌ (pos 0)
-    (map (λ player. slice_index_or scores player (pos 0)) (filter (λ player. team_in sheet.teams player == team) (below sheet.players)))
+    (map (λ player. slice_index_or scores player (pos 0))
+    (filter (λ player. team_in sheet.teams player == team) (below sheet.players)))
 
 -- whether a score is worse than another: smaller where the highest is best, and larger where the lowest is
 abbrev pub is_worse : Best → ℤ → ℤ → Bool
@@ -41,7 +42,8 @@ points_against sheet scores team other =
 -- a player's rank points: the sum over all players
 abbrev pub rank_points : Sheet → List ℤ → ℕ → ℕ
 rank_points sheet scores player =
-    sum_by (λ other. points_against sheet scores (team_in sheet.teams player) (team_in sheet.teams other)) (below sheet.players)
+    sum_by (λ other. points_against sheet scores (team_in sheet.teams player) (team_in sheet.teams other))
+    (below sheet.players)
 
 abbrev pub score_at : About → List ℤ → ℕ → Score
 score_at about scores player =

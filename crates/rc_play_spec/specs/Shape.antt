@@ -25,7 +25,8 @@ pub record Shape : Type 0 where
 
 -- the locations of a name, one for each owner of its class
 abbrev pub places_of : Sheet → LocName → List Place
-places_of sheet name = map (λ n. record { kind = name.kind; class = name.class; owner = n }) (below (owner_count sheet name.class))
+places_of sheet name =
+    map (λ n. record { kind = name.kind; class = name.class; owner = n }) (below (owner_count sheet name.class))
 
 -- the locations in their order: by the first mention of their names, then by the owners
 abbrev pub places : Sheet → List Place

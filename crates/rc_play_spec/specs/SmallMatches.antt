@@ -23,7 +23,12 @@ dealt = record { lists = [] ∷ (3 ∷ 2 ∷ []) ∷ (1 ∷ 0 ∷ []) ∷ [] ∷
 
 abbrev pub first_control : Control
 first_control =
-    record { site = Some 0; frames = record { stage = 0; member = 0; back = false; named = None } ∷ []; turn = 1; made = 0 ∷ 0 ∷ [] }
+    record {
+      site = Some 0;
+      frames = record { stage = 0; member = 0; back = false; named = None } ∷ [];
+      turn = 1;
+      made = 0 ∷ 0 ∷ [];
+    }
 
 abbrev pub first_view : View
 first_view = view_of four.shape 0 dealt first_control
@@ -35,7 +40,13 @@ ask_of rounds = record { rounds = rounds; key = 9; seed = 7; view = first_view }
 abbrev pub six_cards : Sheet
 six_cards =
     record four_cards {
-      decks = record { loc = 0; groups = group 0 (branch 0 no_group (branch 1 no_group (branch 2 no_group (branch 3 no_group (branch 4 no_group (branch 5 no_group no_branch)))))) no_group } ∷ [];
+      decks = record {
+        loc = 0;
+        groups =
+            group 0 (branch 0 no_group
+            (branch 1 no_group (branch 2 no_group (branch 3 no_group (branch 4 no_group (branch 5 no_group no_branch))))))
+            no_group;
+      } ∷ [];
       points =
           (record { attr = 0; values = 0 ∷ []; points = pos 1 }
           ∷ record { attr = 0; values = 1 ∷ []; points = pos 2 }

@@ -37,13 +37,15 @@ small_sheet =
       nums = record { name = 0; class = game_class } ∷ record { name = 1; class = player_class } ∷ [];
       items = items_from (
           stage 0 player_class (eq_int (literal (pos 0)) (literal (pos 0))) (items_from (
-          stage 1 team_class (eq_int (literal (pos 0)) (literal (pos 0))) (items_from (do_item no_effect ∷ [])) ∷ [])) ∷ []);
+          stage 1 team_class (eq_int (literal (pos 0)) (literal (pos 0))) (items_from (do_item no_effect ∷ [])) ∷ []))
+          ∷ []);
     }
 
 -- by id: 10 of hearts, 11 of spades, 12 without a suit, 11 of spades again, 12 of hearts
 abbrev pub small_faces : List Face
 small_faces =
-    ((0, 10) ∷ (1, 20) ∷ []) ∷ ((0, 11) ∷ (1, 21) ∷ []) ∷ ((0, 12) ∷ []) ∷ ((0, 11) ∷ (1, 21) ∷ []) ∷ ((0, 12) ∷ (1, 20) ∷ []) ∷ []
+    ((0, 10) ∷ (1, 20) ∷ []) ∷ ((0, 11) ∷ (1, 21) ∷ []) ∷ ((0, 12) ∷ []) ∷ ((0, 11) ∷ (1, 21) ∷ [])
+    ∷ ((0, 12) ∷ (1, 20) ∷ []) ∷ []
 
 -- the shape of the sheet, with these cards
 abbrev pub small_shape : Shape

@@ -114,7 +114,8 @@ counting_to_four e =
       nums = record { name = 0; class = game_class } ∷ [];
       items = items_from (
           stage 0 player_class (eq_int (number (num_of game 0)) (literal (pos 4)))
-          (items_from (choice 0 (do_alt (effects_from (increase (num_of game 0) (literal (pos 1)) ∷ e ∷ [])) ∷ []) ∷ []))
+          (items_from
+          (choice 0 (do_alt (effects_from (increase (num_of game 0) (literal (pos 1)) ∷ e ∷ [])) ∷ []) ∷ []))
           ∷ []);
       best = highest;
       score = number (num_of game 0);
@@ -137,11 +138,14 @@ large_pile =
     record four_cards {
       players = 1;
       decks =
-          record { loc = 0; groups = group 0 (branches_from (below 20)) (group 1 (branches_from (below 15)) no_group) } ∷ [];
+          record { loc = 0; groups = group 0 (branches_from (below 20)) (group 1 (branches_from (below 15)) no_group) }
+          ∷ [];
       locs = record { name = 0; kind = vloc; class = game_class } ∷ [];
       items = items_from (
           stage 0 player_class (eq_int (literal (pos 0)) (literal (pos 1)))
-          (items_from (choice 0 (any_alt (each_card (cards_in (loc_at game 0 0))) 0 (do_alt (effects_from (turn_round ∷ []))) ∷ []) ∷ []))
+          (items_from
+          (choice 0 (any_alt (each_card (cards_in (loc_at game 0 0))) 0 (do_alt (effects_from (turn_round ∷ [])))
+          ∷ []) ∷ []))
           ∷ []);
       score = literal (pos 0);
     }
@@ -159,6 +163,8 @@ forty_cards =
           move (top_card (cards_in (loc_at game 0 202))) top (loc_at (who_var 0) 1 226) ∷ [])) ∷ [])) ∷ []))
           ∷ stage 0 player_class
           (all_of each_player 0 (eq_int (size_of (cards_in (loc_at (who_var 0) 1 289))) (literal (pos 0))))
-          (items_from (choice 0 (any_alt (each_card (cards_in (loc_at current_player 1 323))) 1 (do_alt (effects_from (play_it ∷ []))) ∷ []) ∷ []))
+          (items_from
+          (choice 0 (any_alt (each_card (cards_in (loc_at current_player 1 323))) 1
+          (do_alt (effects_from (play_it ∷ []))) ∷ []) ∷ []))
           ∷ []);
     }

@@ -8,12 +8,14 @@ pub record IsSmallestUnused (shape : Shape) (used : List ℕ) (f id : ℕ) : Typ
   pub within : id < length shape.faces
   pub face : face_number shape id ≡ f
   pub free : list_any (λ other. other == id) used ≡ false
-  pub least : (smaller : ℕ) → smaller < id → face_number shape smaller ≡ f → list_any (λ other. other == smaller) used ≡ true
+  pub least : (smaller : ℕ) → smaller < id → face_number shape smaller ≡ f →
+      list_any (λ other. other == smaller) used ≡ true
 
 -- each place takes it, where those before it took theirs
 abbrev pub TakeSmallest : Shape → List ℕ → List ℕ → Type 0
 TakeSmallest shape fs ids =
-    (length ids ≡ length fs) × ((k : ℕ) → k < length fs → IsSmallestUnused shape (take k ids) (slice_index fs k) (slice_index ids k))
+    (length ids ≡ length fs)
+    × ((k : ℕ) → k < length fs → IsSmallestUnused shape (take k ids) (slice_index fs k) (slice_index ids k))
 
 -- each face has as many ids as it is seen
 abbrev pub AreEnough : Shape → List ℕ → Type 0

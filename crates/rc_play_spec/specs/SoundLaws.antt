@@ -36,19 +36,23 @@ OpeningIsSound = (shape : Shape) → HasHomes shape → IsSound shape (opening s
 abbrev pub EffectsKeepSound : Type 0
 EffectsKeepSound =
     (about : About) (dealing : Dealing ℕ) (around : Around) (vars : Vars) (effects : Effects) (now : Point ℕ) →
-    about.shape ≡ shape_of about.sheet → DealsOrders dealing → AreEffects about.sheet around effects → All (IsBindOf about.shape) vars →
+    about.shape ≡ shape_of about.sheet → DealsOrders dealing → AreEffects about.sheet around effects →
+    All (IsBindOf about.shape) vars →
     IsSound about.shape now.table → IsSound about.shape (does about dealing vars effects now).table
 
 -- wherever items lead in a match of a well formed sheet, the table is sound
 abbrev pub ReachedIsSound : Type 0
 ReachedIsSound =
-    (about : About) (dealing : Dealing ℕ) → about.shape ≡ shape_of about.sheet → IsWellFormed about.sheet → DealsOrders dealing →
-    (items : List ℕ) (k : ℕ) (at : Stopped ℕ) → reached about dealing items k ≡ Some at → IsSound about.shape at.config.table
+    (about : About) (dealing : Dealing ℕ) → about.shape ≡ shape_of about.sheet → IsWellFormed about.sheet →
+    DealsOrders dealing →
+    (items : List ℕ) (k : ℕ) (at : Stopped ℕ) → reached about dealing items k ≡ Some at →
+    IsSound about.shape at.config.table
 
 -- so each view there is one of a sound table
 abbrev pub ReachedViewsAreOfSound : Type 0
 ReachedViewsAreOfSound =
-    (about : About) (dealing : Dealing ℕ) → about.shape ≡ shape_of about.sheet → IsWellFormed about.sheet → DealsOrders dealing →
+    (about : About) (dealing : Dealing ℕ) → about.shape ≡ shape_of about.sheet → IsWellFormed about.sheet →
+    DealsOrders dealing →
     (items : List ℕ) (k seat : ℕ) (at : Stopped ℕ) → reached about dealing items k ≡ Some at →
     IsViewOfSound about.shape (view_of about.shape seat at.config.table at.config.control)
 
@@ -60,8 +64,10 @@ MatchesDealOrders = (deal : ℕ) → DealsOrders (dealing_of deal)
 -- to the mover, and has the same menu.
 abbrev pub DecisionsCanBeRedrawn : Type 0
 DecisionsCanBeRedrawn =
-    (about : About) (dealing : Dealing ℕ) → about.shape ≡ shape_of about.sheet → IsWellFormed about.sheet → IsInSight about.sheet → DealsOrders dealing →
-    (items key : List ℕ) (k seat site : ℕ) (at : Stopped ℕ) → reached about dealing items k ≡ Some at → at.stop ≡ decide seat site →
+    (about : About) (dealing : Dealing ℕ) → about.shape ≡ shape_of about.sheet → IsWellFormed about.sheet →
+    IsInSight about.sheet → DealsOrders dealing →
+    (items key : List ℕ) (k seat site : ℕ) (at : Stopped ℕ) → reached about dealing items k ≡ Some at →
+    at.stop ≡ decide seat site →
     let view = view_of about.shape seat at.config.table at.config.control in
     let table = redraw about.shape view key in
     IsSound about.shape table × (view_of about.shape seat table at.config.control ≡ view)

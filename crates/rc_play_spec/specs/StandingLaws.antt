@@ -13,7 +13,8 @@ RanksBefore s t = (t.points < s.points) ⊎ ((s.points ≡ t.points) × (s.strat
 -- the strategies of the standings are those of the plan, each once
 abbrev pub EachRanksOnce : Type 0
 EachRanksOnce =
-    (plan : Plan) (records : List Record) → IsPermutation (below (length plan.strategies)) (map (λ s. s.strategy) (standings_of plan records))
+    (plan : Plan) (records : List Record) →
+    IsPermutation (below (length plan.strategies)) (map (λ s. s.strategy) (standings_of plan records))
 
 -- each stands before all later ones
 abbrev pub StandingsAreInOrder : Type 0
@@ -22,10 +23,12 @@ StandingsAreInOrder = (plan : Plan) (records : List Record) → AllPairs RanksBe
 -- each tells its strategy's points
 abbrev pub StandingsTellPoints : Type 0
 StandingsTellPoints =
-    (plan : Plan) (records : List Record) → All (λ s. s.points ≡ slice_index (points_of plan records) s.strategy) (standings_of plan records)
+    (plan : Plan) (records : List Record) →
+    All (λ s. s.points ≡ slice_index (points_of plan records) s.strategy) (standings_of plan records)
 
 -- and its place is one plus the number of those with more points
 abbrev pub PlacesCountAhead : Type 0
 PlacesCountAhead =
     (plan : Plan) (records : List Record) →
-    All (λ s. s.place ≡ 1 + count_by (λ t. nat_lt s.points t.points) (standings_of plan records)) (standings_of plan records)
+    All (λ s. s.place ≡ 1 + count_by (λ t. nat_lt s.points t.points) (standings_of plan records))
+    (standings_of plan records)

@@ -59,7 +59,13 @@ beside count false member = (member + 1) % count
 -- the member who is next: the one named, who is then named no more, or else the one beside
 abbrev pub with_next : ℕ → Frame → Frame
 with_next count frame =
-    record { stage = frame.stage; member = unwrap_or frame.named (beside count frame.back frame.member); back = frame.back; named = None }
+    record {
+      stage = frame.stage;
+      member = unwrap_or frame.named (beside count frame.back frame.member);
+      back =
+          frame.back;
+      named = None;
+    }
 
 -- the innermost frame takes its next member
 abbrev pub passed : ℕ → List Frame → List Frame
@@ -85,7 +91,8 @@ one_turn_more c = record { site = c.site; frames = c.frames; turn = c.turn + 1; 
 module _ {S : Type 0} (about : About) (dealing : Dealing S) where
   -- At a choice with this menu: an empty one is passed over. The turn limit is tested before the decision.
   abbrev pub at_menu : S → ℕ → List Alt → List Part → Table → Control → List Item → Next S
-  at_menu dealer site alts rest table control [] = goes dealer (record { left = rest; table = table; control = control })
+  at_menu dealer site alts rest table control [] =
+      goes dealer (record { left = rest; table = table; control = control })
   at_menu dealer site alts rest table control (first ∷ items) =
       if nat_le about.turns control.turn
       then stops is_limit (record { left = todo (choice site alts) ∷ rest; table = table; control = control })
@@ -100,7 +107,12 @@ module _ {S : Type 0} (about : About) (dealing : Dealing S) where
       if nat_le about.turns control.turn
       then stops is_limit (record { left = round s ∷ rest; table = table; control = control })
       else goes dealer
-      (record { left = todos (item_list s.body) ++ turn s ∷ round s ∷ rest; table = table; control = one_turn_more control })
+      (record {
+        left = todos (item_list s.body) ++ turn s ∷ round s ∷ rest;
+        table = table;
+        control =
+            one_turn_more control;
+      })
 
   -- after effects
   abbrev pub behind : List Part → Control → Point S → Config
@@ -115,14 +127,24 @@ module _ {S : Type 0} (about : About) (dealing : Dealing S) where
   first_step dealer (todo (stage number class end body) ∷ rest) table control =
       let s : Stage = record { number = number; class = class; end = end; body = body } in
       goes dealer
-      (record { left = round s ∷ rest; table = table; control = with_frames control (opened about.sheet s control.frames) })
+      (record {
+        left = round s ∷ rest;
+        table = table;
+        control =
+            with_frames control (opened about.sheet s control.frames);
+      })
   first_step dealer (todo (choice site alts) ∷ rest) table control =
       at_menu dealer site alts rest table control (menu_from (scene_at about table control.frames) alts)
   first_step dealer (round s ∷ rest) table control =
       at_round dealer s rest table control (test_value (scene_at about table control.frames) [] s.end)
   first_step dealer (turn s ∷ rest) table control =
       goes dealer
-      (record { left = rest; table = table; control = with_frames control (passed (owner_count about.sheet s.class) control.frames) })
+      (record {
+        left = rest;
+        table = table;
+        control =
+            with_frames control (passed (owner_count about.sheet s.class) control.frames);
+      })
 
   -- one step
   abbrev pub step : S → Config → Next S

@@ -22,7 +22,8 @@ use Rattle.rc_play_spec.specs.Match.{match_of}
 
 -- every configuration comes to a stop
 abbrev pub ComesToStop : Type 0
-ComesToStop = (about : About) (dealing : Dealing ℕ) (k : ℕ) (c : Config) → (at : Stopped ℕ) × (stop_of about dealing k c ≡ Some at)
+ComesToStop = (about : About) (dealing : Dealing ℕ) (k : ℕ) (c : Config) →
+    (at : Stopped ℕ) × (stop_of about dealing k c ≡ Some at)
 
 -- a step leaves the stop as it is, and takes from the effort
 abbrev pub StepKeepsStop : Type 0
@@ -32,7 +33,8 @@ StepKeepsStop =
 
 abbrev pub StepTakesEffort : Type 0
 StepTakesEffort =
-    (about : About) (dealing : Dealing ℕ) (k k' : ℕ) (c c' : Config) → step about dealing k c ≡ goes k' c' → effort about c' < effort about c
+    (about : About) (dealing : Dealing ℕ) (k k' : ℕ) (c c' : Config) → step about dealing k c ≡ goes k' c' →
+    effort about c' < effort about c
 
 -- where a match has stopped, it stops again
 abbrev pub StopsAgain : Type 0
@@ -49,7 +51,8 @@ StopsThere =
 -- from a configuration without a site the control has one at a decision alone
 abbrev pub SiteAtDecision : Type 0
 SiteAtDecision =
-    (about : About) (dealing : Dealing ℕ) (k : ℕ) (c : Config) (at : Stopped ℕ) → c.control.site ≡ None → stop_of about dealing k c ≡ Some at →
+    (about : About) (dealing : Dealing ℕ) (k : ℕ) (c : Config) (at : Stopped ℕ) → c.control.site ≡ None →
+    stop_of about dealing k c ≡ Some at →
     HasNoSite at.stop at.config
 
 -- frames are always those of the open stages: at the start, at each stop, and behind each choice
@@ -58,21 +61,25 @@ StartHasFrames = (about : About) → HasFrames (start about)
 
 abbrev pub StopHasFrames : Type 0
 StopHasFrames =
-    (about : About) (dealing : Dealing ℕ) (k : ℕ) (c : Config) (at : Stopped ℕ) → HasFrames c → stop_of about dealing k c ≡ Some at →
+    (about : About) (dealing : Dealing ℕ) (k : ℕ) (c : Config) (at : Stopped ℕ) → HasFrames c →
+    stop_of about dealing k c ≡ Some at →
     HasFrames at.config
 
 abbrev pub StepHasFrames : Type 0
 StepHasFrames =
-    (about : About) (dealing : Dealing ℕ) (k k' : ℕ) (c c' : Config) → HasFrames c → step about dealing k c ≡ goes k' c' → HasFrames c'
+    (about : About) (dealing : Dealing ℕ) (k k' : ℕ) (c c' : Config) → HasFrames c →
+    step about dealing k c ≡ goes k' c' → HasFrames c'
 
 abbrev pub ChoiceHasFrames : Type 0
 ChoiceHasFrames =
-    (about : About) (dealing : Dealing ℕ) (k k' x : ℕ) (c c' : Config) → HasFrames c → choose about dealing k x c ≡ goes k' c' → HasFrames c'
+    (about : About) (dealing : Dealing ℕ) (k k' x : ℕ) (c c' : Config) → HasFrames c →
+    choose about dealing k x c ≡ goes k' c' → HasFrames c'
 
 -- every play ends
 abbrev pub EveryPlayEnds : Type 0
 EveryPlayEnds =
-    (about : About) (dealing : Dealing ℕ) (chooser : Chooser ℕ) (k : ℕ) → (p : Played ℕ) × (played about dealing chooser k ≡ Some p)
+    (about : About) (dealing : Dealing ℕ) (chooser : Chooser ℕ) (k : ℕ) →
+    (p : Played ℕ) × (played about dealing chooser k ≡ Some p)
 
 -- where a chooser leaves the dealer's state alone, a play is where its items lead, if the menus had them
 abbrev pub ItemsLeadToEnd : Type 0
@@ -85,7 +92,8 @@ ItemsLeadToEnd =
 -- and so every match has a record
 abbrev pub EveryMatchHasRecord : Type 0
 EveryMatchHasRecord =
-    (about : About) (dealing : ℕ → Dealing ℕ) (chosen : Choice) (plan : Plan) (m : ℕ) → (r : Record) × (match_of about dealing chosen plan m ≡ Some r)
+    (about : About) (dealing : ℕ → Dealing ℕ) (chosen : Choice) (plan : Plan) (m : ℕ) →
+    (r : Record) × (match_of about dealing chosen plan m ≡ Some r)
 
 -- what a path leaves to run, case by case: an item done or passed over
 abbrev pub PathPassesItem : Type 0
@@ -96,7 +104,8 @@ PathPassesItem =
 -- a round of the stage that is next
 abbrev pub PathAtRound : Type 0
 PathAtRound =
-    (items : List SheetItem) (path : Path) (s : Stage) → path.at_round ≡ true → stage_in (next_item items path) ≡ Some s →
+    (items : List SheetItem) (path : Path) (s : Stage) → path.at_round ≡ true →
+    stage_in (next_item items path) ≡ Some s →
     left_of items path ≡ round s ∷ left_of items (past path)
 
 -- its body
@@ -118,7 +127,8 @@ abbrev pub SiteFixesLeft : Type 0
 SiteFixesLeft =
     (sheet : Sheet) (site : ℕ) (alts : List Alt) (path : Path) →
     sites_in sheet.items ≡ below (length (sites_in sheet.items)) → path.at_round ≡ false →
-    next_item (item_list sheet.items) path ≡ Some (choice site alts) → left_at sheet site ≡ left_of (item_list sheet.items) path
+    next_item (item_list sheet.items) path ≡ Some (choice site alts) →
+    left_at sheet site ≡ left_of (item_list sheet.items) path
 
 abbrev pub SiteFixesAlternatives : Type 0
 SiteFixesAlternatives =

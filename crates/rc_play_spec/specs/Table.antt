@@ -62,7 +62,8 @@ pub record AreSeats (players : ℕ) (seats : List ℕ) : Type 0 where
 -- no card that stands in this location is marked for a seat that sees the location
 abbrev pub HidesMarked : Shape → List (List ℕ) → Place × List ℕ → Type 0
 HidesMarked shape marks at =
-    is_mem at.0.kind ≡ false → All (λ id. All (λ seat. sees_place shape seat (Some at.0) ≡ false) (marks_of marks id)) at.1
+    is_mem at.0.kind ≡ false →
+    All (λ id. All (λ seat. sees_place shape seat (Some at.0) ≡ false) (marks_of marks id)) at.1
 
 -- A table has a list for each location, a value for each number and marks for each card, and every id in it is a card's. Each card
 -- stands once in the lists that hold cards. References are within their limits, and numbers within the clamp. Marks are seats, and
@@ -97,11 +98,13 @@ place_of shape table id = let loc = loc_of shape table id in (loc, index_in id (
 
 -- a list in place of another
 abbrev pub with_list : Table → ℕ → List ℕ → Table
-with_list table loc list = record { lists = slice_set table.lists loc list; numbers = table.numbers; marks = table.marks }
+with_list table loc list =
+    record { lists = slice_set table.lists loc list; numbers = table.numbers; marks = table.marks }
 
 -- these marks of a card, and nothing else changes
 abbrev pub set_marks : ℕ → List ℕ → Table → Table
-set_marks id seats table = record { lists = table.lists; numbers = table.numbers; marks = slice_set table.marks id seats }
+set_marks id seats table =
+    record { lists = table.lists; numbers = table.numbers; marks = slice_set table.marks id seats }
 
 -- marks that are none for these cards
 abbrev pub cleared : List ℕ → List (List ℕ) → List (List ℕ)
@@ -130,7 +133,8 @@ put_bottom shape id loc table = set_marks id [] (under id loc (without shape id 
 
 -- whether there is room for one more reference in a location
 abbrev pub has_room : Shape → ℕ → Table → Bool
-has_room shape loc table = nat_lt (length (list_at table loc)) most_in_mem && nat_lt (references shape table) most_references
+has_room shape loc table =
+    nat_lt (length (list_at table loc)) most_in_mem && nat_lt (references shape table) most_references
 
 -- one more reference, where there is room
 abbrev pub remember_top : Shape → ℕ → ℕ → Table → Table
@@ -150,7 +154,8 @@ abbrev pub forget_in : Shape → ℕ → ℕ → Table → Table
 forget_in shape id loc table = with_list table loc (reverse (without_face shape id (reverse (list_at table loc))))
 
 abbrev pub set_number : ℕ → ℤ → Table → Table
-set_number num value table = record { lists = table.lists; numbers = slice_set table.numbers num value; marks = table.marks }
+set_number num value table =
+    record { lists = table.lists; numbers = slice_set table.numbers num value; marks = table.marks }
 
 -- The i-th item of what a permutation makes of a list is the old one at the permutation's i-th number.
 abbrev pub taken : List ℕ → List ℕ → List ℕ

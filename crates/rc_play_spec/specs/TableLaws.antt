@@ -31,29 +31,34 @@ PutKeepsCards =
 -- a card put somewhere else
 abbrev pub PutKeepsSound : Type 0
 PutKeepsSound =
-    (shape : Shape) (table : Table) (id loc : ℕ) → IsSound shape table → id < length shape.faces → HoldsCards shape loc →
+    (shape : Shape) (table : Table) (id loc : ℕ) → IsSound shape table → id < length shape.faces →
+    HoldsCards shape loc →
     IsSound shape (put_top shape id loc table) × IsSound shape (put_bottom shape id loc table)
 
 -- one more reference, where there is room
 abbrev pub RememberKeepsSound : Type 0
 RememberKeepsSound =
-    (shape : Shape) (table : Table) (id loc : ℕ) → IsSound shape table → id < length shape.faces → HoldsReferences shape loc →
+    (shape : Shape) (table : Table) (id loc : ℕ) → IsSound shape table → id < length shape.faces →
+    HoldsReferences shape loc →
     IsSound shape (remember_top shape id loc table) × IsSound shape (remember_bottom shape id loc table)
 
 -- one reference less, if there is one with this face
 abbrev pub ForgetKeepsSound : Type 0
 ForgetKeepsSound =
-    (shape : Shape) (table : Table) (id loc : ℕ) → IsSound shape table → HoldsReferences shape loc → IsSound shape (forget_in shape id loc table)
+    (shape : Shape) (table : Table) (id loc : ℕ) → IsSound shape table → HoldsReferences shape loc →
+    IsSound shape (forget_in shape id loc table)
 
 -- another value of a number
 abbrev pub NumberKeepsSound : Type 0
 NumberKeepsSound =
-    (shape : Shape) (table : Table) (num : ℕ) (value : ℤ) → IsSound shape table → IsWithinClamp value → IsSound shape (set_number num value table)
+    (shape : Shape) (table : Table) (num : ℕ) (value : ℤ) → IsSound shape table → IsWithinClamp value →
+    IsSound shape (set_number num value table)
 
 -- other marks of a card: seats that don't see its location
 abbrev pub MarksKeepSound : Type 0
 MarksKeepSound =
-    (shape : Shape) (table : Table) (id : ℕ) (seats : List ℕ) → IsSound shape table → id < length shape.faces → AreSeats shape.players seats →
+    (shape : Shape) (table : Table) (id : ℕ) (seats : List ℕ) → IsSound shape table → id < length shape.faces →
+    AreSeats shape.players seats →
     All (λ seat. sees shape seat (loc_of shape table id) ≡ false) seats → IsSound shape (set_marks id seats table)
 
 -- no marks of these cards
@@ -66,7 +71,8 @@ ClearedKeepsSound =
 abbrev pub MarkedAreUnseen : Type 0
 MarkedAreUnseen =
     (shape : Shape) (table : Table) (id : ℕ) → IsSound shape table → id < length shape.faces →
-    AreSeats shape.players (marks_of table.marks id) × All (λ seat. sees shape seat (loc_of shape table id) ≡ false) (marks_of table.marks id)
+    AreSeats shape.players (marks_of table.marks id)
+    × All (λ seat. sees shape seat (loc_of shape table id) ≡ false) (marks_of table.marks id)
 
 -- a list permuted
 abbrev pub ReorderKeepsSound : Type 0
@@ -76,4 +82,5 @@ ReorderKeepsSound =
 
 -- a list in an order of its places is a permutation of it
 abbrev pub OrdersPermuteLists : Type 0
-OrdersPermuteLists = (list order : List ℕ) → IsPermutation (below (length list)) order → IsPermutation list (taken order list)
+OrdersPermuteLists =
+    (list order : List ℕ) → IsPermutation (below (length list)) order → IsPermutation list (taken order list)

@@ -34,11 +34,17 @@ one_draw_more j = (j + 1) % 4294967296
 -- Shuffles and picks of a playout: its state is the count of its draws.
 abbrev pub playout_dealing : Ask → ℕ → ℕ → Dealing ℕ
 playout_dealing ask round x =
-    record { order = λ j size. keyed.order ask.key (use_of ask playout_shuffles) ask.seed (draw_number round x j) size; next = λ j size. one_draw_more j }
+    record {
+      order = λ j size. keyed.order ask.key (use_of ask playout_shuffles) ask.seed (draw_number round x j) size;
+      next = λ j size. one_draw_more j;
+    }
 
 abbrev pub playout_chooser : About → Ask → ℕ → ℕ → Chooser ℕ
-playout_chooser about ask round x seat site table control j =
-    (keyed.pick ask.key (use_of ask playout_picks) ask.seed (draw_number round x j) (length (menu_at about site table control)), one_draw_more j)
+playout_chooser about ask round x seat site table control j = (
+  keyed.pick ask.key (use_of ask playout_picks) ask.seed (draw_number round x j)
+      (length (menu_at about site table control)),
+  one_draw_more j,
+)
 
 -- the redrawn table of a round, at the site of the decision
 abbrev pub redrawn_at : About → Ask → ℕ → Config

@@ -16,7 +16,8 @@ abbrev pub LineIsRead : Type 0
 LineIsRead = (named : Bool) (m : Marked) → IsMarkedInRange named m → line_of named (marked_text m) ≡ Some m
 
 abbrev pub ReadIsLine : Type 0
-ReadIsLine = (named : Bool) (bytes : List ℕ) (m : Marked) → line_of named bytes ≡ Some m → IsMarkedInRange named m × (bytes ≡ marked_text m)
+ReadIsLine = (named : Bool) (bytes : List ℕ) (m : Marked) → line_of named bytes ≡ Some m →
+    IsMarkedInRange named m × (bytes ≡ marked_text m)
 
 -- the text without marks is that of its lines
 abbrev pub PlainText : Type 0
@@ -27,7 +28,8 @@ PlainIsText = (t : HouseText) → IsHouseText t → IsText plain.named (unmarked
 
 -- cut at each LF, a text falls into its lines
 abbrev pub TextIsCut : Type 0
-TextIsCut = (f : Format) (n : NamedText) → IsHead f.head → IsText f.named n → lines_in (text_in f n) ≡ (text_lines f n, [])
+TextIsCut = (f : Format) (n : NamedText) → IsHead f.head → IsText f.named n →
+    lines_in (text_in f n) ≡ (text_lines f n, [])
 
 -- the lines of a legend are cut at their LFs; words have none
 abbrev pub LegendIsCut : Type 0
@@ -43,7 +45,8 @@ abbrev pub TextIsRead : Type 0
 TextIsRead = (f : Format) (n : NamedText) → IsHead f.head → IsText f.named n → read_in f (text_in f n) ≡ Ok n
 
 abbrev pub ReadIsText : Type 0
-ReadIsText = (f : Format) (bytes : List ℕ) (n : NamedText) → read_in f bytes ≡ Ok n → IsText f.named n × (bytes ≡ text_in f n)
+ReadIsText = (f : Format) (bytes : List ℕ) (n : NamedText) → read_in f bytes ≡ Ok n →
+    IsText f.named n × (bytes ≡ text_in f n)
 
 -- what is read has its numbers in their ranges, whatever its marks are
 abbrev pub TextIsHouseText : Type 0

@@ -17,7 +17,8 @@ left_for (p ∷ picks) marks = left_for picks (later_marks marks)
 
 abbrev pub record_told : List (List Bound) → Record → List ℕ
 record_told marks r =
-    match_line r ++ picks_text marks r.picks ++ shuffles_line r.shuffles ++ end_line r.ending r.turn ++ flat_map score_line r.scores
+    match_line r ++ picks_text marks r.picks ++ shuffles_line r.shuffles ++ end_line r.ending r.turn
+    ++ flat_map score_line r.scores
 
 abbrev pub matches_told : List (List Bound) → List Record → List ℕ
 matches_told marks [] = []
@@ -26,4 +27,5 @@ matches_told marks (r ∷ matches) = record_told marks r ++ matches_told (left_f
 -- it is the text
 abbrev pub TextIsOfParts : Type 0
 TextIsOfParts = (f : Format) (n : NamedText) →
-    text_in f n ≡ flat_map line f.head ++ (matches_told n.marks n.text.matches ++ flat_map standing_line n.text.standings)
+    text_in f n
+    ≡ flat_map line f.head ++ (matches_told n.marks n.text.matches ++ flat_map standing_line n.text.standings)

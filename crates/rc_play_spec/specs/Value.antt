@@ -91,10 +91,12 @@ module _ {C : Type 0} (known : Known) (vars : List (Bind C)) where
 
   -- the number of the location of this owner, and of its number; nothing where there is none
   abbrev pub loc_place : Loc → Option ℕ
-  loc_place loc = place_among known.sheet (class_of loc.who) (map (λ l. l.class) known.sheet.locs) loc.name (who_value loc.who)
+  loc_place loc =
+      place_among known.sheet (class_of loc.who) (map (λ l. l.class) known.sheet.locs) loc.name (who_value loc.who)
 
   abbrev pub num_place : Num → Option ℕ
-  num_place num = place_among known.sheet (class_of num.who) (map (λ n. n.class) known.sheet.nums) num.name (who_value num.who)
+  num_place num =
+      place_among known.sheet (class_of num.who) (map (λ n. n.class) known.sheet.nums) num.name (who_value num.who)
 
 abbrev pub cards_there : {C : Type 0} → Scene C → Option ℕ → List C
 cards_there scene None = []
@@ -131,7 +133,8 @@ module _ {C : Type 0} (scene : Scene C) where
   -- the groups of cards with equal values of the attribute, in order of first appearance
   abbrev pub groups_by : ℕ → List C → List (List C)
   groups_by attr cards =
-      map (λ value. filter (λ c. both nat_same (attr_of attr c) (Some value)) cards) (firsts (filter_map (attr_of attr) cards))
+      map (λ value. filter (λ c. both nat_same (attr_of attr c) (Some value)) cards)
+      (firsts (filter_map (attr_of attr) cards))
 
   abbrev mutual
     pub card_value : List (Bind C) → CardExpr → Option C
@@ -144,7 +147,8 @@ module _ {C : Type 0} (scene : Scene C) where
     pub coll_value : List (Bind C) → CollExpr → List C
     coll_value vars (group_var var) = cut (group_of (slice_get vars var))
     coll_value vars (cards_in loc) = cut (cards_there scene (loc_place scene.known vars loc))
-    coll_value vars (filtered cards bound t) = filter (λ c. test_value (vars ++ card_bound c ∷ []) t) (coll_value vars cards)
+    coll_value vars (filtered cards bound t) =
+        filter (λ c. test_value (vars ++ card_bound c ∷ []) t) (coll_value vars cards)
     coll_value vars (union_of parts) = cut (colls_value vars parts)
     coll_value vars (known_in loc) = cut (known_there scene (loc_place scene.known vars loc))
 

@@ -9,7 +9,8 @@ use Rattle.rc_play_spec.specs.Scene.{CardValue, Vars}
 
 -- of a collection at most so many cards count
 abbrev pub CollectionsAreWithin : Type 0
-CollectionsAreWithin = (scene : Scene CardValue) (vars : Vars) (cards : CollExpr) → length (coll_value scene vars cards) ≤ most_in_collection
+CollectionsAreWithin = (scene : Scene CardValue) (vars : Vars) (cards : CollExpr) →
+    length (coll_value scene vars cards) ≤ most_in_collection
 
 -- each number that a well formed expression has is within the clamp, where those of the table are
 abbrev pub NumbersAreWithin : Type 0
@@ -21,10 +22,12 @@ NumbersAreWithin =
 abbrev pub LargestComesFirst : Type 0
 LargestComesFirst =
     (worth : CardValue → ℤ) (cards : List CardValue) (c : CardValue) → best_of int_more worth cards ≡ Some c →
-    (k : ℕ) × (slice_get cards k ≡ Some c) × All (λ other. worth other ≤ℤ worth c) cards × All (λ other. worth other <ℤ worth c) (take k cards)
+    (k : ℕ) × (slice_get cards k ≡ Some c) × All (λ other. worth other ≤ℤ worth c) cards
+    × All (λ other. worth other <ℤ worth c) (take k cards)
 
 -- the smallest card is worth as little as each, and less than each before it
 abbrev pub SmallestComesFirst : Type 0
 SmallestComesFirst =
     (worth : CardValue → ℤ) (cards : List CardValue) (c : CardValue) → best_of int_lt worth cards ≡ Some c →
-    (k : ℕ) × (slice_get cards k ≡ Some c) × All (λ other. worth c ≤ℤ worth other) cards × All (λ other. worth c <ℤ worth other) (take k cards)
+    (k : ℕ) × (slice_get cards k ≡ Some c) × All (λ other. worth c ≤ℤ worth other) cards
+    × All (λ other. worth c <ℤ worth other) (take k cards)

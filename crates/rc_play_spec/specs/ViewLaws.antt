@@ -17,29 +17,36 @@ use Rattle.rc_play_spec.specs.Alike.{IsAlike}
 -- a menu is a function of what its mover sees
 abbrev pub MenuOfView : Type 0
 MenuOfView =
-    (sheet : Sheet) (shape : Shape) (table : Table) (control : Control) (site : ℕ) → shape ≡ shape_of sheet → IsInSight sheet →
+    (sheet : Sheet) (shape : Shape) (table : Table) (control : Control) (site : ℕ) → shape ≡ shape_of sheet →
+    IsInSight sheet →
     menu_of (scene_of sheet shape table control.frames) site
     ≡ menu_of (view_scene sheet shape (view_of shape (mover sheet control.frames) table control)) site
 
 -- where the mover's views are equal, the menus are
 abbrev pub EqualViewsEqualMenus : Type 0
 EqualViewsEqualMenus =
-    (sheet : Sheet) (shape : Shape) (table table' : Table) (control control' : Control) (site : ℕ) → shape ≡ shape_of sheet → IsInSight sheet →
-    view_of shape (mover sheet control.frames) table control ≡ view_of shape (mover sheet control.frames) table' control' →
-    menu_of (scene_of sheet shape table control.frames) site ≡ menu_of (scene_of sheet shape table' control'.frames) site
+    (sheet : Sheet) (shape : Shape) (table table' : Table) (control control' : Control) (site : ℕ) →
+    shape ≡ shape_of sheet → IsInSight sheet →
+    view_of shape (mover sheet control.frames) table control
+    ≡ view_of shape (mover sheet control.frames) table' control' →
+    menu_of (scene_of sheet shape table control.frames) site
+    ≡ menu_of (scene_of sheet shape table' control'.frames) site
 
 -- the views of a seat are equal exactly where the states are alike to it
 abbrev pub EqualViewsAlike : Type 0
 EqualViewsAlike =
     (shape : Shape) (seat : ℕ) (table table' : Table) (control control' : Control) →
-    IsAlike shape seat table table' control control' ↔ (view_of shape seat table control ≡ view_of shape seat table' control')
+    IsAlike shape seat table table' control control' ↔ (view_of shape seat table control
+    ≡ view_of shape seat table' control')
 
 -- where states are alike to the mover, the menus are equal
 abbrev pub AlikeEqualMenus : Type 0
 AlikeEqualMenus =
-    (sheet : Sheet) (shape : Shape) (table table' : Table) (control control' : Control) (site : ℕ) → shape ≡ shape_of sheet → IsInSight sheet →
+    (sheet : Sheet) (shape : Shape) (table table' : Table) (control control' : Control) (site : ℕ) →
+    shape ≡ shape_of sheet → IsInSight sheet →
     IsAlike shape (mover sheet control.frames) table table' control control' →
-    menu_of (scene_of sheet shape table control.frames) site ≡ menu_of (scene_of sheet shape table' control'.frames) site
+    menu_of (scene_of sheet shape table control.frames) site
+    ≡ menu_of (scene_of sheet shape table' control'.frames) site
 
 -- what the mover knows of a location is what its view tells
 abbrev pub KnownOfView : Type 0
@@ -51,7 +58,8 @@ KnownOfView =
 -- where states are alike to the mover, it knows as many cards of each location, with equal faces at equal places
 abbrev pub AlikeEqualKnown : Type 0
 AlikeEqualKnown =
-    (sheet : Sheet) (shape : Shape) (table table' : Table) (control control' : Control) (place : Option ℕ) → shape ≡ shape_of sheet →
+    (sheet : Sheet) (shape : Shape) (table table' : Table) (control control' : Control) (place : Option ℕ) →
+    shape ≡ shape_of sheet →
     IsAlike shape (mover sheet control.frames) table table' control control' →
     map (λ c. face_number shape (id_of c)) (known_there (scene_of sheet shape table control.frames) place)
     ≡ map (λ c. face_number shape (id_of c)) (known_there (scene_of sheet shape table' control'.frames) place)

@@ -63,7 +63,8 @@ abbrev mutual
   pub read_branch_parts : DeckNames → Trees → Option Branch
   read_branch_parts names nil = None
   read_branch_parts names (cons head groups) =
-      both (λ number inner. (number, inner)) (number_of names.values head) (unless_nil groups (read_groups names groups))
+      both (λ number inner. (number, inner)) (number_of names.values head)
+      (unless_nil groups (read_groups names groups))
 
 -- whether the tree is this word
 abbrev pub is_word : List ℕ → Tree → Bool

@@ -16,7 +16,13 @@ frames_seen frames = map frame_seen frames
 
 abbrev pub control_seen : Control → PureControl
 control_seen control =
-    record { site = control.site; frames = frames_seen control.frames.items; turn = control.turn; made = control.made.items }
+    record {
+      site = control.site;
+      frames = frames_seen control.frames.items;
+      turn = control.turn;
+      made =
+          control.made.items;
+    }
 
 abbrev pub stop_seen : Stop → PureStop
 stop_seen (Decide seat site) = decide seat site

@@ -5,4 +5,5 @@ use Rattle.rc_play_spec.specs.Shape.{team_in}
 
 -- a player's score, where the player is in the team, and else nothing
 abbrev pub share : Sheet → List ℤ → ℕ → ℕ → ℤ
-share sheet scores team player = if team_in sheet.teams player == team then slice_index_or scores player (pos 0) else pos 0
+share sheet scores team player =
+    if team_in sheet.teams player == team then slice_index_or scores player (pos 0) else pos 0

@@ -12,7 +12,8 @@ use Rattle.rc_check.specs.declared.grammar.Rule.TheVariants as rule
 -- SPOT: `(top LOC)` or `(bottom LOC)`
 abbrev pub spot_rule : Naming → Scope → Rule → Trees → Option (End × Loc)
 spot_rule naming scope rule.TopOf (cons head (cons loc nil)) = option_map (λ loc. (top, loc)) (loc_at naming scope loc)
-spot_rule naming scope rule.BottomOf (cons head (cons loc nil)) = option_map (λ loc. (bottom, loc)) (loc_at naming scope loc)
+spot_rule naming scope rule.BottomOf (cons head (cons loc nil)) =
+    option_map (λ loc. (bottom, loc)) (loc_at naming scope loc)
 spot_rule naming scope rule parts = None
 
 abbrev pub spot_at : Naming → Scope → Tree → Option (End × Loc)
@@ -49,7 +50,8 @@ abbrev mutual
   -- EFFECT
   pub effect_at : Naming → Scope → Tree → Option Effect
   effect_at naming scope (word bytes from to) = None
-  effect_at naming scope (list parts from to) = rule_at symbol.Effect parts >>= λ rule. effect_rule naming scope rule parts
+  effect_at naming scope (list parts from to) =
+      rule_at symbol.Effect parts >>= λ rule. effect_rule naming scope rule parts
 
   pub effect_rule : Naming → Scope → Rule → Trees → Option Effect
   effect_rule naming scope rule.If (cons head (cons t effects)) =
@@ -94,7 +96,8 @@ abbrev mutual
   -- ALT
   pub alt_at : Naming → Scope → Tree → Option Alt
   alt_at naming scope (word bytes from to) = None
-  alt_at naming scope (list parts from to) = rule_at symbol.Alternative parts >>= λ rule. alt_rule naming scope rule parts
+  alt_at naming scope (list parts from to) =
+      rule_at symbol.Alternative parts >>= λ rule. alt_rule naming scope rule parts
 
   pub alt_rule : Naming → Scope → Rule → Trees → Option Alt
   alt_rule naming scope rule.AnyOf (cons head (cons domain (cons variable (cons alt nil)))) =

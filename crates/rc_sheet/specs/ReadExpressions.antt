@@ -67,7 +67,8 @@ abbrev mutual
 
   pub card_rule : Naming → Scope → Rule → Trees → Option CardExpr
   card_rule naming scope rule.TopCard (cons head (cons cards nil)) = option_map top_card (coll_at naming scope cards)
-  card_rule naming scope rule.BottomCard (cons head (cons cards nil)) = option_map bottom_card (coll_at naming scope cards)
+  card_rule naming scope rule.BottomCard (cons head (cons cards nil)) =
+      option_map bottom_card (coll_at naming scope cards)
   card_rule naming scope rule.MaxCard (cons head (cons cards (cons using (cons map nil)))) =
       option_map (λ p. max_card p.0 p.1) (both (coll_at naming scope cards) (map_at naming using map))
   card_rule naming scope rule.MinCard (cons head (cons cards (cons using (cons map nil)))) =
@@ -120,7 +121,8 @@ abbrev mutual
   side_at naming scope (word bytes from to) = side_word scope bytes
   side_at naming scope (list parts from to) =
       rule_at symbol.Side parts >>= λ rule.
-      side_by rule (int_rule naming scope rule parts) (card_rule naming scope rule parts) (value_parts naming scope parts)
+      side_by rule (int_rule naming scope rule parts) (card_rule naming scope rule parts)
+      (value_parts naming scope parts)
       (owner_rule scope rule parts)
 
   -- `(attr CARD ATTR)`

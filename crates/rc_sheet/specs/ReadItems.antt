@@ -38,7 +38,8 @@ stage_of begun class end items =
 -- one more choice
 abbrev pub choice_of : Begun → Option (List Alt) → Option (SheetItem × Begun)
 choice_of begun alts =
-    ensure (nat_lt begun.sites most_sites) >>= λ room. option_map (λ alts. (choice begun.sites alts, with_site begun)) alts
+    ensure (nat_lt begun.sites most_sites) >>= λ room. option_map
+    (λ alts. (choice begun.sites alts, with_site begun)) alts
 
 -- `(end BOOL)`
 abbrev pub end_rule : Naming → Rule → Trees → Option Test
@@ -82,7 +83,8 @@ item_of_list naming begun parts = rule_at symbol.Item parts >>= λ rule. item_ru
 -- BEST
 abbrev pub best_at : Tree → Option Best
 best_at tree =
-    if is_form_word keyword.Max tree then Some highest else (if is_form_word keyword.Min tree then Some lowest else None)
+    if is_form_word keyword.Max tree then Some highest
+    else (if is_form_word keyword.Min tree then Some lowest else None)
 
 -- `(scoring BEST INT)`
 abbrev pub score_rule : Naming → Rule → Trees → Option (Best × IntExpr)

@@ -54,7 +54,8 @@ tests_behind naming scope nil = None
 -- a variable of this sort, and a test that it is bound in
 abbrev pub bound_test : Naming → Scope → Tree → Sort → Tree → Option (ℕ × Test)
 bound_test naming scope variable sort t =
-    binder_at naming.names.vars scope variable >>= λ bound. both (Some bound) (test_at naming (bind naming scope bound sort) t)
+    binder_at naming.names.vars scope variable >>= λ bound. both (Some bound)
+    (test_at naming (bind naming scope bound sort) t)
 
 -- `(filter COLL VARIABLE BOOL)`
 abbrev pub filter_parts : Naming → Scope → Trees → Option CollExpr
@@ -121,7 +122,8 @@ int_form naming scope rule parts = None
 
 abbrev pub side_form : Naming → Scope → Rule → Trees → Option Side
 side_form naming scope rule parts =
-    side_by rule (int_form naming scope rule parts) (card_form naming scope rule parts) (card_and_attr naming scope parts)
+    side_by rule (int_form naming scope rule parts) (card_form naming scope rule parts)
+    (card_and_attr naming scope parts)
     (owner_rule scope rule parts)
 
 -- which of two numbers is less

@@ -106,8 +106,10 @@ points_line naming before map tree = do
 abbrev pub line_rule : Naming → Lines → Rule → Trees → Option Lines
 line_rule naming before rule.CreatePlayers (cons create (cons players (cons count nil))) = players_line before count
 line_rule naming before rule.CreateTeams (cons create (cons teams parts)) = teams_line before parts
-line_rule naming before rule.CreateDeck (cons create (cons deck (cons loc (cons tree nil)))) = deck_line naming before loc tree
-line_rule naming before rule.PutPoints (cons put (cons points (cons map (cons tree nil)))) = points_line naming before map tree
+line_rule naming before rule.CreateDeck (cons create (cons deck (cons loc (cons tree nil)))) =
+    deck_line naming before loc tree
+line_rule naming before rule.PutPoints (cons put (cons points (cons map (cons tree nil)))) =
+    points_line naming before map tree
 line_rule naming before rule parts = None
 
 unfoldable pub line_at : Naming → Lines → Tree → Option Lines

@@ -58,7 +58,8 @@ four_cards =
       decks =
           record {
             loc = 0;
-            groups = group 0 (branch 0 no_group (branch 1 no_group (branch 2 no_group (branch 3 no_group no_branch)))) no_group;
+            groups = group 0
+                (branch 0 no_group (branch 1 no_group (branch 2 no_group (branch 3 no_group no_branch)))) no_group;
           } ∷ [];
       points =
           (record { attr = 0; values = 0 ∷ []; points = pos 1 }

@@ -76,7 +76,8 @@ abbrev mutual
 
   pub bound_words : Trees → List (List ℕ)
   bound_words (cons head (cons domain (cons var rest))) =
-      var_words head ++ var_words domain ++ (if is_binder head then word_of var else var_words var) ++ all_var_words rest
+      var_words head ++ var_words domain ++ (if is_binder head then word_of var else var_words var)
+      ++ all_var_words rest
   bound_words (cons head (cons tree nil)) = var_words head ++ var_words tree
   bound_words (cons head nil) = var_words head
   bound_words nil = []

@@ -27,4 +27,5 @@ pub record IsNumbered (sheet : Sheet) : Type 0 where
 -- one. So many names are numbered before them, and so many behind them.
 abbrev pub Extends : ℕ → List ℕ → ℕ → Type 0
 Extends before [] after = before ≡ after
-Extends before (n ∷ ns) after = ((n < before) × Extends before ns after) ⊎ ((n ≡ before) × Extends (before + 1) ns after)
+Extends before (n ∷ ns) after =
+    ((n < before) × Extends before ns after) ⊎ ((n ≡ before) × Extends (before + 1) ns after)

@@ -40,7 +40,8 @@ Two head First Second = Row (Atom head ▸ First ▸ Second ▸ End)
 
 -- two owners of one class
 abbrev pub TwoOwners : String → Scope → Who → Who → Tree → Type 0
-TwoOwners head scope who who' form = Two head (StandsOwner scope who) (StandsOwner scope who') form × (class_of who ≡ class_of who')
+TwoOwners head scope who who' form =
+    Two head (StandsOwner scope who) (StandsOwner scope who') form × (class_of who ≡ class_of who')
 
 abbrev mutual
   -- CARD

@@ -61,7 +61,8 @@ StandValues naming (value ∷ values) = Named naming.names.values value ▸ Stan
 abbrev pub StandEntries : Naming → List Entry → Trees → Type 0
 StandEntries naming [] = End
 StandEntries naming (entry ∷ entries) =
-    Row (Named naming.names.attrs entry.attr ▸ Row (Some (StandValues naming entry.values)) ▸ Literal entry.points ▸ End)
+    Row (Named naming.names.attrs entry.attr ▸ Row
+    (Some (StandValues naming entry.values)) ▸ Literal entry.points ▸ End)
     ▸ StandEntries naming entries
 
 -- `(put points MAP (ENTRY+))`, which is the map of this number

@@ -279,7 +279,8 @@ IsEntry entry = (1 ≤ length entry.values) × IsWithinClamp entry.points
 pub record ArePartition (players : ℕ) (teams : Teams) : Type 0 where
   pub some : list_any (λ team. length team == 0) teams ≡ false
   pub whole : length (flat_map (λ team. team) teams) ≡ players
-  pub once : map (λ player. count_by (nat_eq player) (flat_map (λ team. team) teams)) (below players) ≡ replicate players 1
+  pub once : map (λ player. count_by (nat_eq player) (flat_map (λ team. team) teams)) (below players)
+      ≡ replicate players 1
 
 abbrev pub AreTeams : ℕ → Option Teams → Type 0
 AreTeams players None = ⊤

@@ -16,7 +16,8 @@ CanRefill (loc ∷ locs) ids lists =
     (loc < length lists) × (n ≤ length ids) × CanRefill locs (drop n ids) (slice_set lists loc (take n ids))
 
 abbrev pub refilled : List ℕ → List ℕ → Table → Table
-refilled locs ids table = record { lists = lists_refilled locs ids table.lists; numbers = table.numbers; marks = table.marks }
+refilled locs ids table =
+    record { lists = lists_refilled locs ids table.lists; numbers = table.numbers; marks = table.marks }
 
 -- each location that isn't one of these holds the same in both tables
 abbrev pub DifferAtMostIn : List ℕ → Table → Table → Type 0

@@ -12,4 +12,5 @@ room_of row = row.room
 -- one row behind the other, from a place up to an end; none holds more than it has room for, nor has room for more than its count can say
 abbrev pub AreRows : List Row → ℕ → ℕ → Type 0
 AreRows [] from end = from ≡ end
-AreRows (row ∷ rows) from end = (row.from ≡ from) × (row.count ≤ row.room) × (row.room ≤ 65535) × AreRows rows (from + row.room) end
+AreRows (row ∷ rows) from end =
+    (row.from ≡ from) × (row.count ≤ row.room) × (row.room ≤ 65535) × AreRows rows (from + row.room) end

@@ -30,7 +30,15 @@ pub record IsShape (shape : PureShape) : Type 0 where
 -- a shape of these parts
 abbrev pub shape_of_parts : ℕ → List ℕ → List Place → ℕ → List Face → List ℕ → PureShape
 shape_of_parts players team_of places numbers faces home =
-    record { players = players; team_of = team_of; places = map place_seen places; numbers = numbers; faces = faces; home = home }
+    record {
+      players = players;
+      team_of = team_of;
+      places = map place_seen places;
+      numbers = numbers;
+      faces =
+          faces;
+      home = home;
+    }
 
 -- the number of each face: the place of the first one that equals it
 abbrev pub face_numbers_of : List Face → List ℕ

@@ -16,7 +16,8 @@ noted loc at (id ∷ ids) stand = noted loc (at + 1) ids (slice_set stand id (lo
 -- the same for what a location holds from a place on; references are not noted
 abbrev pub noted_in : Shape → List (List ℕ) → ℕ → ℕ → List (ℕ × ℕ) → List (ℕ × ℕ)
 noted_in shape lists loc from stand =
-    if holds_references (slice_get shape.places loc) then stand else noted loc from (drop from (slice_index_or lists loc [])) stand
+    if holds_references (slice_get shape.places loc) then stand
+    else noted loc from (drop from (slice_index_or lists loc [])) stand
 
 -- a table of these lists, whose numbers and marks don't matter
 abbrev pub laid_out : List (List ℕ) → Table
@@ -24,4 +25,5 @@ laid_out lists = record { lists = lists; numbers = []; marks = [] }
 
 -- the lists of a sound table
 abbrev pub AreSound : Shape → List (List ℕ) → Type 0
-AreSound shape lists = (numbers : List ℤ) × (marks : List (List ℕ)) × IsSound shape (record { lists = lists; numbers = numbers; marks = marks })
+AreSound shape lists = (numbers : List ℤ) × (marks : List (List ℕ))
+    × IsSound shape (record { lists = lists; numbers = numbers; marks = marks })

@@ -38,7 +38,8 @@ all_marked (id ∷ ids) (byte ∷ bytes) table = all_marked ids bytes (marked_as
 -- the table before the edit
 abbrev pub undone : Edit → Table → Table
 undone (moved from place to at byte) table =
-    if nat_lt at (length (list_at table to)) then marked_again (slice_index (list_at table to) at) byte (moved_between to at from place table) else table
+    if nat_lt at (length (list_at table to))
+    then marked_again (slice_index (list_at table to) at) byte (moved_between to at from place table) else table
 undone (changed num value) table = set_number num value table
 undone (ordered loc list bytes) table = all_marked list bytes (relisted loc list table)
 undone (marked id byte) table = marked_as id byte table
@@ -59,7 +60,8 @@ IsEditOf shape (ordered loc list bytes) = loc < length shape.places
 IsEditOf shape (marked id byte) = Unit {0}
 IsEditOf shape (noted loc at) = HoldsReferences shape loc
 IsEditOf shape (forgotten id loc place) = HoldsReferences shape loc
-IsEditOf shape (gathered from list to other) = (from < length shape.places) × (to < length shape.places) × (from ≡ to → ⊥)
+IsEditOf shape (gathered from list to other) =
+    (from < length shape.places) × (to < length shape.places) × (from ≡ to → ⊥)
 
 -- a card may have the marks that this byte says, where it stands
 abbrev pub MayMark : Shape → Table → ℕ → ℕ → Type 0
@@ -85,7 +87,8 @@ LeadsThrough shape (gathered from list to other) table = Unit {0}
 abbrev pub CanUndo : Shape → List Edit → Table → Type 0
 CanUndo shape [] table = Unit {0}
 CanUndo shape (e ∷ edits) table =
-    (IsEditOf shape e × LeadsThrough shape e table) × IsSound shape (undone e table) × CanUndo shape edits (undone e table)
+    (IsEditOf shape e × LeadsThrough shape e table) × IsSound shape (undone e table)
+    × CanUndo shape edits (undone e table)
 
 -- one more in front of others, where it is noted
 abbrev pub noting : {X : Type 0} → Bool → X → List X → List X

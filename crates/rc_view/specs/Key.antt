@@ -41,10 +41,12 @@ place_key known = to_le_bytes w16 known.0 ++ to_le_bytes w16 known.1
 abbrev pub sight_key : Sight → List ℕ
 sight_key (with_faces numbers) = to_le_bytes w16 (length numbers) ++ flat_map (to_le_bytes w16) numbers
 sight_key (partly os) =
-    to_le_bytes w16 (length os) ++ (to_le_bytes w16 (length (known_places 0 os)) ++ flat_map place_key (known_places 0 os))
+    to_le_bytes w16 (length os)
+    ++ (to_le_bytes w16 (length (known_places 0 os)) ++ flat_map place_key (known_places 0 os))
 
 abbrev pub key_of : View → List ℕ
-key_of view = view.seat ∷ control_key view.control ++ (flat_map number_key view.numbers ++ flat_map sight_key view.sights)
+key_of view =
+    view.seat ∷ control_key view.control ++ (flat_map number_key view.numbers ++ flat_map sight_key view.sights)
 
 -- what is seen of a location is no longer than it can be
 abbrev pub IsShort : Sight → Type 0

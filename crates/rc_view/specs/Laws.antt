@@ -52,7 +52,8 @@ pub record IsViewIn (shape : Shape) (view : View) : Type 0 where
 -- two views of one shape have equal bytes exactly where they are equal
 abbrev pub KeysTellViews : Type 0
 KeysTellViews =
-    (shape : Shape) (view view' : View) → IsViewIn shape view → IsViewIn shape view' → (key_of view ≡ key_of view') ↔ (view ≡ view')
+    (shape : Shape) (view view' : View) → IsViewIn shape view → IsViewIn shape view' →
+    (key_of view ≡ key_of view') ↔ (view ≡ view')
 
 -- What a seat sees of a sound table takes fewer than 8,000 bytes, where no more stages are open than a sheet may have inside one
 -- another and there is one count of decisions for each player.
@@ -65,5 +66,6 @@ KeysAreShort =
 -- a control that fits a choice site of a well formed sheet has room in the bytes, and one count of decisions for each player
 abbrev pub FittingControlsHaveKeys : Type 0
 FittingControlsHaveKeys =
-    (about : About) (site : ℕ) (control : Control) → IsWellFormed about.sheet → FitsSite about site control → control.turn < 2 ^ 32 →
+    (about : About) (site : ℕ) (control : Control) → IsWellFormed about.sheet → FitsSite about site control →
+    control.turn < 2 ^ 32 →
     HasControlKey control × (length control.made ≡ about.sheet.players)
