@@ -17,3 +17,4 @@ mod simple;
 
 pub use blocks::{do_block, front, past};
 pub use items::do_item;
+pub use simple::do_simple;

@@ -1,7 +1,7 @@
 //! The judge of house texts: whether the matches that a text tells are plays that the sheet and the plan allow, and
 //! else the first line that isn't so, and why. It plays along once.
 //!
-//! Stands on rc_plain and rc_text, never on rc_undo, rc_flat or rc_cache.
+//! Stands on rc_plain and rc_text, never on rc_flat or rc_cache.
 #![tactic(auto)]
 
 mod judging;

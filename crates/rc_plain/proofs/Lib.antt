@@ -1,5 +1,4 @@
 pub mod EffectSteps
-mod EveryoneLemmas
 pub mod StageLemmas
 pub mod PathLemmas
 pub mod StepCases

@@ -13,20 +13,25 @@ use Rattle.rc_plain.specs.State.{IsReady, config_at}
 use Rattle.rc_plain.specs.declared.state.PlainState.{PlainState}
 use Rattle.rc_plain.proofs.KeptLemmas.{item_kept}
 
-pub bounds_kept : (about : About) (state : PlainState) → IsReady about state → (decision : StopsAtDecision about (config_at about state)) →
-    (alts : List Alt) → ((site : ℕ) (others : List Alt) → item_at about.sheet state.path ≡ Some (choice site others) → alts ≡ others) →
-    (place : ℕ) → place < length (menu_here about (config_at about state)) → (item : Item) → item ≡ slice_index_or state.menu.items place item →
+pub bounds_kept : (about : About) (state : PlainState) → IsReady about state →
+    (decision : StopsAtDecision about (config_at about state)) →
+    (alts : List Alt) →
+    ((site : ℕ) (others : List Alt) → item_at about.sheet state.path ≡ Some (choice site others) → alts ≡ others) →
+    (place : ℕ) → place < length (menu_here about (config_at about state)) → (item : Item) →
+    item ≡ slice_index_or state.menu.items place item →
     map (bound_of about.shape)
-    (bindings_of (scene_at about state.table.table (frames_seen state.control.frames.items)) [] (alt_in alts item.alt) item.spots.items)
+    (bindings_of (scene_at about state.board.laid.table (frames_seen state.control.frames.items)) []
+    (alt_in alts item.alt) item.spots.items)
     ≡ bounds_here about place (config_at about state)
 bounds_kept about state ready decision alts are place offered item is =
     let stands = decision.2.decision.stands in
     let kept = ready.kept decision.1 stands in
-    let scene = scene_at about state.table.table (frames_seen state.control.frames.items) in
+    let scene = scene_at about state.board.laid.table (frames_seen state.control.frames.items) in
     let none : PureItem = record { alt = 0; spots = [] } in
     let same : alts ≡ alts_at about.sheet (unwrap_or state.control.site 0) =
     are decision.1 _ kept.offered.there ∙ ap (λ o. alts_at about.sheet (unwrap_or o 0)) (sym stands) in
     ap (λ (i : PureItem). map (bound_of about.shape) (bindings_of scene [] (alt_in alts i.alt) i.spots))
     (sym (item_kept about state ready decision alts are place offered item is))
     ∙ ap (λ alts. map (bound_of about.shape)
-    (bindings_of scene [] (alt_in alts (slice_index_or (menu_from scene alts) place none).alt) (slice_index_or (menu_from scene alts) place none).spots)) same
+    (bindings_of scene [] (alt_in alts (slice_index_or (menu_from scene alts) place none).alt)
+    (slice_index_or (menu_from scene alts) place none).spots)) same

@@ -1,4 +1,3 @@
-pub mod Everyone
 pub mod Paths
 pub mod Plain
 pub mod State

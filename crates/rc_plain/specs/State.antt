@@ -1,5 +1,5 @@
 -- States as the definitions of play have them, and what their steps lead to.
-use Rattle.std.specs.Prelude.{◌≡◌, ℕ, ◌<◌, length, Option, Some, None}
+use Rattle.std.specs.Prelude.{◌≡◌, ℕ, ◌<◌, false, length, Option, Some, None}
 use Rattle.rc_sheet_spec.specs.Sheet.{choice}
 use Rattle.rc_play_spec.specs.Menu.{alts_at}
 use Rattle.rc_play_spec.specs.About.{About, menu_at}
@@ -15,7 +15,7 @@ use Rattle.rc_plain.specs.declared.state.PlainState.{PlainState}
 
 abbrev pub plain_of : About → PlainState → Plain
 plain_of about state =
-    record { about = about; path = state.path; table = state.table.table; control = control_seen state.control }
+    record { about = about; path = state.path; table = state.board.laid.table; control = control_seen state.control }
 
 -- the choice with this site is next, and it offers something
 pub record IsOffered (m : Plain) (site : ℕ) : Type 0 where
@@ -25,12 +25,13 @@ pub record IsOffered (m : Plain) (site : ℕ) : Type 0 where
 -- its menu is kept
 pub record KeepsMenu (about : About) (state : PlainState) (site : ℕ) : Type 0 where
   pub offered : IsOffered (plain_of about state) site
-  pub menu : menu_seen state.menu.items ≡ menu_at about site state.table.table (control_seen state.control)
+  pub menu : menu_seen state.menu.items ≡ menu_at about site state.board.laid.table (control_seen state.control)
 
--- The table is laid for the shape, the state is one of a match, and it is known who is current. Where the control has a
+-- The table is laid for the shape, its edits aren't noted, the state is one of a match, and it is known who is current. Where the control has a
 -- site, the choice with it is next, and its menu is kept.
 pub record IsReady (about : About) (state : PlainState) : Type 0 where
-  pub laid : state.table.shape ≡ about.shape
+  pub laid : state.board.laid.shape ≡ about.shape
+  pub quiet : state.board.notes ≡ false
   pub play : IsInPlay (plain_of about state)
   pub current : IsCurrent about.sheet (frames_seen state.control.frames.items) state.current
   pub kept : (site : ℕ) → state.control.site ≡ Some site → KeepsMenu about state site

@@ -1,5 +1,5 @@
 //! Decisions: what a mover may pick, and what follows.
-ghost use Rattle.std.specs.Prelude.{◌≡◌, ℕ, ◌+◌, ◌<◌, ◌^◌, length, Some};
+ghost use Rattle.std.specs.Prelude.{◌≡◌, ℕ, ◌+◌, ◌<◌, false, ◌^◌, length, Some};
 ghost use Rattle.rc_sheet_spec.specs.Sheet.{choice};
 ghost use Rattle.rc_play_spec.specs.Step.{goes};
 ghost use Rattle.rc_play_spec.specs.Decision.{choose};
@@ -12,7 +12,7 @@ ghost use Rattle.rc_plain.specs.Paths.{item_at};
 ghost use Rattle.rc_plain.specs.Plain.{IsInPlay, chosen_item};
 ghost use Rattle.rc_plain.specs.State.{IsReady, plain_of, config_at};
 
-use crate::do_item;
+use crate::items::do_item;
 use crate::state::PlainState;
 use rc_ast::Alt;
 use rc_rules::{About, Dealer, Item};
@@ -36,7 +36,8 @@ impl PlainState {
 
     /// Takes this item of the menu at the choice that is next, and does its effects.
     fn choose<D: Dealer>(&mut self, about: &About, alts: &[Alt], item: &Item, dealer: &mut D)
-        requires laid { self.old.table.shape ≡ about.now.shape }
+        requires laid { self.old.board.laid.shape ≡ about.now.shape }
+        requires quiet { self.old.board.notes ≡ false }
         requires play { IsInPlay (plain_of about.now self.old) }
         requires current { IsCurrent about.now.sheet (frames_seen self.old.control.frames.items) self.old.current }
         requires here { (site : ℕ) × (item_at about.now.sheet self.old.path ≡ Some (choice site (alts_seen alts.now))) }
@@ -59,7 +60,7 @@ impl PlainState {
             current,
             alts,
             item,
-            &mut self.table,
+            &mut self.board,
             &mut self.control.frames,
             dealer,
         );

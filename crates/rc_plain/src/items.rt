@@ -1,5 +1,5 @@
 //! The effects of an item that was chosen.
-ghost use Rattle.std.specs.Prelude.{◌≡◌, ◌<◌, [], ◌∷◌, ◌++◌, length};
+ghost use Rattle.std.specs.Prelude.{◌≡◌, ◌<◌, [], ◌∷◌, ◌++◌, false, length};
 ghost use Rattle.rc_sheet_spec.specs.Sheet.{any_alt};
 ghost use Rattle.rc_play_spec.specs.Value.{Bind as PureBind};
 ghost use Rattle.rc_play_spec.specs.Scene.{CardValue};
@@ -20,10 +20,10 @@ ghost use Rattle.rc_value.specs.Context.{scene_in, IsContextOf, in_scope};
 use crate::effects::do_all;
 use rc_ast::{Alt, Domain};
 use rc_rules::{About, Dealer, Frames, Item};
-use rc_table::Table;
+use rc_undo::Board;
 use rc_value::{Bind, Bindings, Cards, Context, Current, bare_bind_at, bind_of, member_at};
 
-/// Does the effects of an item of a menu, with its variables bound. It takes no memory.
+/// Does the effects of an item of a menu, with its variables bound. The board notes nothing, so it takes no memory.
 ///
 /// An alternative that isn't there has no effects, and a position that isn't there stands for player 0.
 pub fn do_item<D: Dealer>(
@@ -31,21 +31,24 @@ pub fn do_item<D: Dealer>(
     current: Current,
     alts: &[Alt],
     item: &Item,
-    table: &mut Table,
+    board: &mut Board,
     frames: &mut Frames,
     dealer: &mut D,
 )
-    requires shape { table.old.shape ≡ about.now.shape }
+    requires shape { board.old.laid.shape ≡ about.now.shape }
+    requires quiet { board.old.notes ≡ false }
     requires current { IsCurrent about.now.sheet (frames_seen frames.old.items) current }
     requires well { AreAltsOutside about.now.sheet (alts_seen alts.now) }
     ensures does { let alt = alt_in (alts_seen alts.now) item.now.alt in
         does about.now (D.dealing dealer.old)
-        (bindings_of (scene_at about.now table.old.table (frames_seen frames.old.items)) [] alt item.now.spots.items)
+        (bindings_of (scene_at about.now board.old.laid.table (frames_seen frames.old.items)) []
+        alt item.now.spots.items)
         (effects_of alt)
-        (point_of table.old frames.old.items (D.state dealer.old))
-        ≡ point_of table.new frames.new.items (D.state dealer.new) }
-    ensures shape { table.new.shape ≡ about.now.shape }
+        (point_of board.old.laid frames.old.items (D.state dealer.old))
+        ≡ point_of board.new.laid frames.new.items (D.state dealer.new) }
+    ensures shape { board.new.laid.shape ≡ about.now.shape }
     ensures current { IsCurrent about.now.sheet (frames_seen frames.new.items) current }
+    ensures quiet { board.new.notes ≡ false }
     ensures dealing { D.dealing dealer.new ≡ D.dealing dealer.old }
 {
     let Some(alt) = alts.get(item.alt as usize) else {
@@ -57,7 +60,7 @@ pub fn do_item<D: Dealer>(
         scope: &scope,
         current,
     };
-    do_alt(&context, alt, item.spots.as_slice(), table, frames, dealer);
+    do_alt(&context, alt, item.spots.as_slice(), board, frames, dealer);
 }
 
 // Does the effects of an alternative whose variables these positions bind. Where none is left, nothing more is bound.
@@ -66,26 +69,28 @@ fn do_alt<D: Dealer>(
     context: &Context,
     alt: &Alt,
     spots: &[u16],
-    table: &mut Table,
+    board: &mut Board,
     frames: &mut Frames,
     dealer: &mut D,
 )
-    requires stands { IsContextOf context.now table.old frames.old.items }
+    requires stands { IsContextOf context.now board.old.laid frames.old.items }
+    requires quiet { board.old.notes ≡ false }
     requires well { in_scope context.now IsAltUnder (alt_seen alt.now) }
     ensures does { does context.now.about.now (D.dealing dealer.old)
-        (bindings_of (scene_in context.now table.old frames.old.items) context.now.scope.now
+        (bindings_of (scene_in context.now board.old.laid frames.old.items) context.now.scope.now
         (alt_seen alt.now) spots.now) (effects_of (alt_seen alt.now))
-        (point_of table.old frames.old.items (D.state dealer.old))
-        ≡ point_of table.new frames.new.items (D.state dealer.new) }
-    ensures shape { table.new.shape ≡ context.now.about.now.shape }
+        (point_of board.old.laid frames.old.items (D.state dealer.old))
+        ≡ point_of board.new.laid frames.new.items (D.state dealer.new) }
+    ensures shape { board.new.laid.shape ≡ context.now.about.now.shape }
     ensures current { IsCurrent context.now.about.now.sheet (frames_seen frames.new.items) context.now.current }
+    ensures quiet { board.new.notes ≡ false }
     ensures dealing { D.dealing dealer.new ≡ D.dealing dealer.old }
 {
     match alt {
-        Alt::Do(effects) => do_all(context, effects, table, frames, dealer),
-        Alt::If(_, effects) => do_all(context, effects, table, frames, dealer),
+        Alt::Do(effects) => do_all(context, effects, board, frames, dealer),
+        Alt::If(_, effects) => do_all(context, effects, board, frames, dealer),
         Alt::Any(domain, _, inner) => {
-            do_any(context, inner, domain, spots, table, frames, dealer)
+            do_any(context, inner, domain, spots, board, frames, dealer)
         }
     }
 }
@@ -97,31 +102,33 @@ fn do_any<D: Dealer>(
     inner: &Alt,
     domain: &Domain,
     spots: &[u16],
-    table: &mut Table,
+    board: &mut Board,
     frames: &mut Frames,
     dealer: &mut D,
 )
-    requires stands { IsContextOf context.now table.old frames.old.items }
+    requires stands { IsContextOf context.now board.old.laid frames.old.items }
+    requires quiet { board.old.notes ≡ false }
     requires domain { in_scope context.now IsDomainUnder (domain_seen domain.now) }
     requires room { length context.now.scope.now < 5 }
     requires well { (member : PureBind CardValue)
         → IsAltUnder context.now.about.now.sheet (context.now.scope.now ++ member ∷ []) (alt_seen inner.now) }
     requires bare { in_scope context.now IsAltUnder (alt_seen inner.now) }
     ensures does { does context.now.about.now (D.dealing dealer.old)
-        (bindings_of (scene_in context.now table.old frames.old.items) context.now.scope.now
+        (bindings_of (scene_in context.now board.old.laid frames.old.items) context.now.scope.now
         (any_alt (domain_seen domain.now) 0 (alt_seen inner.now)) spots.now)
         (effects_of (alt_seen inner.now))
-        (point_of table.old frames.old.items (D.state dealer.old))
-        ≡ point_of table.new frames.new.items (D.state dealer.new) }
-    ensures shape { table.new.shape ≡ context.now.about.now.shape }
+        (point_of board.old.laid frames.old.items (D.state dealer.old))
+        ≡ point_of board.new.laid frames.new.items (D.state dealer.new) }
+    ensures shape { board.new.laid.shape ≡ context.now.about.now.shape }
     ensures current { IsCurrent context.now.about.now.sheet (frames_seen frames.new.items) context.now.current }
+    ensures quiet { board.new.notes ≡ false }
     ensures dealing { D.dealing dealer.new ≡ D.dealing dealer.old }
 {
     match spots.split_first() {
-        None => do_alt(context, inner, spots, table, frames, dealer),
-        Some((spot, rest)) => match bare_bind_at(context, domain, *spot, &*table, &*frames) {
-            Some(bind) => do_bound(context, inner, bind, rest, table, frames, dealer),
-            None => do_member(context, inner, domain, *spot, rest, table, frames, dealer),
+        None => do_alt(context, inner, spots, board, frames, dealer),
+        Some((spot, rest)) => match bare_bind_at(context, domain, *spot, board.table(), &*frames) {
+            Some(bind) => do_bound(context, inner, bind, rest, board, frames, dealer),
+            None => do_member(context, inner, domain, *spot, rest, board, frames, dealer),
         },
     }
 }
@@ -135,30 +142,32 @@ fn do_member<D: Dealer>(
     domain: &Domain,
     spot: u16,
     rest: &[u16],
-    table: &mut Table,
+    board: &mut Board,
     frames: &mut Frames,
     dealer: &mut D,
 )
-    requires stands { IsContextOf context.now table.old frames.old.items }
+    requires stands { IsContextOf context.now board.old.laid frames.old.items }
+    requires quiet { board.old.notes ≡ false }
     requires domain { in_scope context.now IsDomainUnder (domain_seen domain.now) }
     requires room { length context.now.scope.now < 5 }
     requires well { (member : PureBind CardValue)
         → IsAltUnder context.now.about.now.sheet (context.now.scope.now ++ member ∷ []) (alt_seen inner.now) }
     ensures does { does context.now.about.now (D.dealing dealer.old)
-        (bindings_of (scene_in context.now table.old frames.old.items) context.now.scope.now
+        (bindings_of (scene_in context.now board.old.laid frames.old.items) context.now.scope.now
         (any_alt (domain_seen domain.now) 0 (alt_seen inner.now))
         (spot ∷ rest.now))
         (effects_of (alt_seen inner.now))
-        (point_of table.old frames.old.items (D.state dealer.old))
-        ≡ point_of table.new frames.new.items (D.state dealer.new) }
-    ensures shape { table.new.shape ≡ context.now.about.now.shape }
+        (point_of board.old.laid frames.old.items (D.state dealer.old))
+        ≡ point_of board.new.laid frames.new.items (D.state dealer.new) }
+    ensures shape { board.new.laid.shape ≡ context.now.about.now.shape }
     ensures current { IsCurrent context.now.about.now.sheet (frames_seen frames.new.items) context.now.current }
+    ensures quiet { board.new.notes ≡ false }
     ensures dealing { D.dealing dealer.new ≡ D.dealing dealer.old }
 {
     let mut room = Cards::new();
-    let member = member_at(context, domain, spot, &*table, &*frames, &mut room);
+    let member = member_at(context, domain, spot, board.table(), &*frames, &mut room);
     let bind = bind_of(member, &room);
-    do_bound(context, inner, bind, rest, table, frames, dealer)
+    do_bound(context, inner, bind, rest, board, frames, dealer)
 }
 
 // Does the effects of an alternative with one variable more.
@@ -168,23 +177,25 @@ fn do_bound<D: Dealer>(
     alt: &Alt,
     bind: Bind,
     spots: &[u16],
-    table: &mut Table,
+    board: &mut Board,
     frames: &mut Frames,
     dealer: &mut D,
 )
-    requires stands { IsContextOf context.now table.old frames.old.items }
+    requires stands { IsContextOf context.now board.old.laid frames.old.items }
+    requires quiet { board.old.notes ≡ false }
     requires room { length context.now.scope.now < 5 }
     requires bind { IsBindOf context.now.about.now.shape (bind_seen bind) }
     requires well { IsAltUnder context.now.about.now.sheet (context.now.scope.now ++ bind_seen bind ∷ [])
         (alt_seen alt.now) }
     ensures does { does context.now.about.now (D.dealing dealer.old)
-        (bindings_of (scene_in context.now table.old frames.old.items)
+        (bindings_of (scene_in context.now board.old.laid frames.old.items)
         (context.now.scope.now ++ bind_seen bind.entry ∷ []) (alt_seen alt.now) spots.now)
         (effects_of (alt_seen alt.now))
-        (point_of table.old frames.old.items (D.state dealer.old))
-        ≡ point_of table.new frames.new.items (D.state dealer.new) }
-    ensures shape { table.new.shape ≡ context.now.about.now.shape }
+        (point_of board.old.laid frames.old.items (D.state dealer.old))
+        ≡ point_of board.new.laid frames.new.items (D.state dealer.new) }
+    ensures shape { board.new.laid.shape ≡ context.now.about.now.shape }
     ensures current { IsCurrent context.now.about.now.sheet (frames_seen frames.new.items) context.now.current }
+    ensures quiet { board.new.notes ≡ false }
     ensures dealing { D.dealing dealer.new ≡ D.dealing dealer.old }
 {
     let scope = context.scope.with(bind);
@@ -193,5 +204,5 @@ fn do_bound<D: Dealer>(
         scope: &scope,
         current: context.current,
     };
-    do_alt(&within, alt, spots, table, frames, dealer)
+    do_alt(&within, alt, spots, board, frames, dealer)
 }

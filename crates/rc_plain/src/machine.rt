@@ -21,6 +21,7 @@ use rc_menu::{copy_menu, fill_menu_at};
 use rc_play_spec::sites_fix_choices;
 use rc_rules::{About, Bounds, Control, Dealer, Items, Machine, Menu, Scores, Stop};
 use rc_table::{Shape, Table};
+use rc_undo::Board;
 use rc_value::{Current, new_control, scores_now};
 use std::alloc::Global;
 use std::marker::Model;
@@ -75,7 +76,7 @@ impl PlainMachine {
     {
         let table = Table::new(alloc, about.shape())?;
         let menu = Items::new(alloc)?;
-        Ok(PlainMachine::with_opening(about, table, menu))
+        Ok(PlainMachine::with_opening(about, Board::onward(alloc, table), menu))
     }
 
     /// A match at its start, in matches of this about, which is copied.
@@ -113,9 +114,10 @@ impl PlainMachine {
         PlainMachine::at_decision(alloc, about, table, control)
     }
 
-    // A match at its start, with this table and this room for menus.
-    fn with_opening(about: About, table: Table, menu: Items) -> PlainMachine
-        requires { table ≡ record { shape = about.shape; table = opening about.shape } }
+    // A match at its start, with the table of this board and this room for menus.
+    fn with_opening(about: About, board: Board, menu: Items) -> PlainMachine
+        requires table { board.laid ≡ record { shape = about.shape; table = opening about.shape } }
+        requires quiet { board.notes ≡ false }
         ensures about { result.about ≡ about }
         ensures start { config_of result ≡ start about }
     {
@@ -123,7 +125,7 @@ impl PlainMachine {
         PlainMachine {
             about,
             state: PlainState {
-                table,
+                board,
                 control,
                 path: Path::start(),
                 menu,
@@ -146,15 +148,17 @@ impl PlainMachine {
         ensures at { IfOk result (λ m. config_of m ≡ at_site about table.table (control_seen control)) }
     {
         let menu = Items::new(alloc)?;
-        Ok(PlainMachine::with_menu(about, table, control, menu))
+        let board = Board::onward(alloc, table);
+        Ok(PlainMachine::with_menu(about, board, control, menu))
     }
 
-    // The same with this room for menus.
-    fn with_menu(about: About, table: Table, control: Control, mut menu: Items) -> PlainMachine
-        requires laid { table.shape ≡ about.shape }
-        requires decides { CanDecide about table.table (control_seen control) }
+    // The same with the table of this board, and this room for menus.
+    fn with_menu(about: About, board: Board, control: Control, mut menu: Items) -> PlainMachine
+        requires laid { board.laid.shape ≡ about.shape }
+        requires quiet { board.notes ≡ false }
+        requires decides { CanDecide about board.laid.table (control_seen control) }
         ensures about { result.about ≡ about }
-        ensures at { config_of result ≡ at_site about table.table (control_seen control) }
+        ensures at { config_of result ≡ at_site about board.laid.table (control_seen control) }
     {
         sites_fix_choices();
         // what an about keeps
@@ -163,11 +167,19 @@ impl PlainMachine {
         let path = path_of(&about, site);
         let current = current_in(&about, &control);
         let alts = path.alts(&about);
-        fill_menu_at(&about, current, &table, &control, site, alts, &mut menu);
+        fill_menu_at(
+            &about,
+            current,
+            board.table(),
+            &control,
+            site,
+            alts,
+            &mut menu,
+        );
         PlainMachine {
             about,
             state: PlainState {
-                table,
+                board,
                 control,
                 path,
                 menu,
@@ -255,11 +267,11 @@ impl Machine for PlainMachine {
     }
 
     fn scores(&self) -> Scores {
-        scores_now(&self.about, &self.state.table, &self.state.control)
+        scores_now(&self.about, self.state.board.table(), &self.state.control)
     }
 
     fn table(&self) -> &Table {
-        &self.state.table
+        self.state.board.table()
     }
 
     fn control(&self) -> &Control {

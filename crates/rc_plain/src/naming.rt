@@ -35,7 +35,7 @@ impl PlainState {
             self.current,
             alts,
             item,
-            &self.table,
+            self.board.table(),
             &self.control.frames,
         )
     }

@@ -4,14 +4,14 @@ ghost use Rattle.rc_value.specs.Current.{IsCurrent};
 
 use crate::path::Path;
 use rc_rules::{About, Control, Items};
-use rc_table::Table;
+use rc_undo::Board;
 use rc_value::{Current, current_of};
 
-/// The table, the control, the path to the item that is next, the menu of the decision at which the match stands, and
-/// who is current in the open stages. Where it stands at no decision, the menu is any.
+/// The table, as a board that notes nothing, the control, the path to the item that is next, the menu of the decision at
+/// which the match stands, and who is current in the open stages. Where it stands at no decision, the menu is any.
 #[derive(Drop)]
 pub struct PlainState {
-    pub table: Table,
+    pub board: Board,
     pub control: Control,
     pub path: Path,
     pub menu: Items,

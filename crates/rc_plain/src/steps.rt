@@ -11,7 +11,7 @@ ghost use Rattle.rc_rules.specs.Machine.{IsWhereItStops};
 ghost use Rattle.rc_plain.specs.Paths.{item_at};
 ghost use Rattle.rc_plain.specs.State.{KeepsMenu, IsReady, config_at, next_seen, LeadsTo};
 
-use crate::do_effects;
+use crate::effects::do_effects;
 use crate::state::{PlainState, current_in};
 use rc_ast::{Alt, Class, Effect, SheetItem, Test};
 use rc_menu::fill_menu_at;
@@ -37,7 +37,7 @@ impl PlainState {
             self.current,
             &Bindings::empty(),
             effects,
-            &mut self.table,
+            &mut self.board,
             &mut self.control.frames,
             dealer,
         );
@@ -58,7 +58,7 @@ impl PlainState {
         fill_menu_at(
             about,
             self.current,
-            &self.table,
+            self.board.table(),
             &self.control,
             site,
             alts,
@@ -119,7 +119,7 @@ impl PlainState {
     {
         // what an about keeps
         let _sheet = about.sheet();
-        if has_ended(about, self.current, &self.table, &self.control, end) {
+        if has_ended(about, self.current, self.board.table(), &self.control, end) {
             close_frame(&mut self.control.frames);
             self.current = current_in(about, &self.control);
             self.path.pass();
@@ -198,7 +198,11 @@ impl PlainState {
     pub fn advance<D: Dealer>(&mut self, about: &About, dealer: &mut D) -> Stop
         requires ready { IsReady about.now self.old }
         ensures leads { stop_of about.now (D.dealing dealer.old) (D.state dealer.old) (config_at about.now self.old)
-            ≡ Some (record { stop = stop_seen result; config = config_at about.now self.new; dealer = D.state dealer.new }) }
+            ≡ Some (record {
+              stop = stop_seen result;
+              config = config_at about.now self.new;
+              dealer = D.state dealer.new;
+            }) }
         ensures stands { IsWhereItStops about.now (stop_seen result) (config_at about.now self.new) }
         ensures ready { IsReady about.now self.new }
         ensures dealing { D.dealing dealer.new ≡ D.dealing dealer.old }

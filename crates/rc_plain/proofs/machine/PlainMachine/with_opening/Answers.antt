@@ -8,12 +8,17 @@ use Rattle.rc_plain.proofs.machine.PlainMachine.with_opening.Goals as goal
 
 pub invariant_of-result : goal.invariant_of-result
 invariant_of-result c =
-    let ready = start_ready c.args.about c.start.result c.args.table.table (control_seen c.new_control-control.result) c.start.ensures
-    (ap (λ (t : Laid). t.table) c.requires) c.new_control-control.ensures in
+    let ready =
+    start_ready c.args.about c.start.result c.args.board.laid.table
+    (control_seen c.new_control-control.result) c.start.ensures
+    (ap (λ (t : Laid). t.table) c.requires.table) c.new_control-control.ensures in
     record {
-      laid = ap (λ (t : Laid). t.shape) c.requires;
+      laid = ap (λ (t : Laid). t.shape) c.requires.table;
+      quiet = c.requires.quiet;
       play = ready.0;
-      current = subst (λ (control : Control). IsCurrent c.args.about.sheet control.frames (record { player = 0; team = 0 }))
+      current = subst
+          (λ (control : Control). IsCurrent c.args.about.sheet control.frames (record { player = 0; team = 0 }))
           (sym c.new_control-control.ensures) (refl, refl);
-      kept = λ site is. absurd (let none = ap (λ (control : Control). control.site) c.new_control-control.ensures in cc);
+      kept = λ site is. absurd
+          (let none = ap (λ (control : Control). control.site) c.new_control-control.ensures in cc);
     }

@@ -31,12 +31,15 @@ returns-clause-leads g c =
     let dealing = g.D.Dealer.dealing c.args.dealer.now in
     let k = g.D.Dealer.state c.args.dealer.now in
     let effects = effects_seen c.args.effects.now.items in
-    let after = point_of c.do_effects.new.table c.do_effects.new.frames.items (g.D.Dealer.state c.do_effects.new.dealer) in
+    let after =
+    point_of c.do_effects.new.board.laid c.do_effects.new.frames.items (g.D.Dealer.state c.do_effects.new.dealer) in
     do_leads m dealing k effects after
     (not_round about.sheet m.path c.requires.ready.play.stands (ap stage_in c.requires.here)) c.requires.here
-    (ap (λ vars. does about dealing vars effects (point_of c.args.self.now.table c.args.self.now.control.frames.items k)) (sym c.empty.ensures)
+    (ap (λ vars. does about dealing vars effects
+    (point_of c.args.self.now.board.laid c.args.self.now.control.frames.items k)) (sym c.empty.ensures)
     ∙ c.do_effects.ensures.does)
-    ∙ ap (λ path. goes after.dealer (config_of (moved m path after.table (with_frames m.control after.frames)))) (sym c.pass.ensures)
+    ∙ ap (λ path. goes after.dealer (config_of (moved m path after.table (with_frames m.control after.frames))))
+    (sym c.pass.ensures)
 
 pub returns-clause-ready : goal.returns-clause-ready
 returns-clause-ready g c =
@@ -44,9 +47,13 @@ returns-clause-ready g c =
     let play = c.requires.ready.play in
     record {
       laid = c.do_effects.ensures.shape;
-      play = goes_on m play c.pass.new.self c.do_effects.new.table.table (with_frames m.control (frames_seen c.do_effects.new.frames.items))
-          (g.D.Dealer.dealing c.args.dealer.now) (g.D.Dealer.state c.args.dealer.now) (g.D.Dealer.state c.do_effects.new.dealer)
-          (subst (IsPath c.args.about.now.sheet) (sym c.pass.ensures) (past_is_path m play)) play.turn play.counts (returns-clause-leads g c);
+      quiet = c.do_effects.ensures.quiet;
+      play = goes_on m play c.pass.new.self c.do_effects.new.board.laid.table
+          (with_frames m.control (frames_seen c.do_effects.new.frames.items))
+          (g.D.Dealer.dealing c.args.dealer.now) (g.D.Dealer.state c.args.dealer.now)
+          (g.D.Dealer.state c.do_effects.new.dealer)
+          (subst (IsPath c.args.about.now.sheet) (sym c.pass.ensures) (past_is_path m play)) play.turn play.counts
+          (returns-clause-leads g c);
       current = c.do_effects.ensures.current;
       kept = λ site is. absurd (not_offered m site _ (c.requires.ready.kept site is).offered c.requires.here refl);
     }

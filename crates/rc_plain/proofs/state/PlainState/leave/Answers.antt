@@ -48,7 +48,9 @@ returns-clause-ready c =
     let back = left_stage m play path leaves in
     record {
       laid = c.requires.ready.laid;
-      play = goes_on m play path m.table (with_frames m.control (frames_seen c.pass_frame-self.new.frames.items)) still 0 0
+      quiet = c.requires.ready.quiet;
+      play = goes_on m play path m.table
+          (with_frames m.control (frames_seen c.pass_frame-self.new.frames.items)) still 0 0
           back.0 play.turn play.counts (returns-clause-leads c still 0);
       current = c.pass_frame-self.ensures.current;
       kept = λ site is. absurd (not_offered m site _ (c.requires.ready.kept site is).offered c.requires.end refl);

@@ -17,7 +17,8 @@ pub open_frame-self-requires-clause-room : goal.open_frame-self-requires-clause-
 open_frame-self-requires-clause-room c =
     let m = plain_of c.args.about.now c.args.self.now in
     let i = stage c.args.number c.args.class (test_seen c.args.end.now) c.requires.here.0 in
-    let few = few_frames m c.requires.ready.play i c.sheet-sheet.ensures.well (sym c.at_round.ensures ∙ c.if-at_round.false) c.requires.here.1 in
+    let few = few_frames m c.requires.ready.play i c.sheet-sheet.ensures.well
+    (sym c.at_round.ensures ∙ c.if-at_round.false) c.requires.here.1 in
     let same = length-map c.args.self.now.control.frames.items frame_seen in
     omega (arith, few, same)
 
@@ -30,7 +31,8 @@ returns-clause-leads c =
     let s : Stage = record { number = c.args.number; class = c.args.class; end = end; body = body } in
     let frames = frames_seen c.open_frame-self.new.frames.items in
     λ dealing k.
-    open_leads m dealing k c.args.number c.args.class end body frames (sym c.at_round.ensures ∙ c.if-at_round.false) c.requires.here.1
+    open_leads m dealing k c.args.number c.args.class end body frames
+    (sym c.at_round.ensures ∙ c.if-at_round.false) c.requires.here.1
     (sym c.open_frame-self.ensures.opened)
     ∙ ap (λ path. goes k (config_of (moved m path m.table (with_frames m.control frames)))) (sym c.open.ensures)
 
@@ -39,11 +41,21 @@ returns-clause-ready c =
     let about = c.args.about.now in
     let m = plain_of about c.args.self.now in
     let play = c.requires.ready.play in
-    let s : Stage = record { number = c.args.number; class = c.args.class; end = test_seen c.args.end.now; body = c.requires.here.0 } in
+    let s : Stage =
+    record {
+      number = c.args.number;
+      class = c.args.class;
+      end = test_seen c.args.end.now;
+      body =
+          c.requires.here.0;
+    } in
     record {
       laid = c.requires.ready.laid;
-      play = goes_on m play c.open.new.self m.table (with_frames m.control (frames_seen c.open_frame-self.new.frames.items)) still 0 0
-          (subst (IsPath about.sheet) (sym c.open.ensures) (mark_is_path m play s (ap stage_in c.requires.here.1))) play.turn play.counts
+      quiet = c.requires.ready.quiet;
+      play = goes_on m play c.open.new.self m.table
+          (with_frames m.control (frames_seen c.open_frame-self.new.frames.items)) still 0 0
+          (subst (IsPath about.sheet) (sym c.open.ensures)
+          (mark_is_path m play s (ap stage_in c.requires.here.1))) play.turn play.counts
           (returns-clause-leads c still 0);
       current = c.open_frame-self.ensures.current;
       kept = λ site is. absurd (not_offered m site _ (c.requires.ready.kept site is).offered c.requires.here.1 refl);
