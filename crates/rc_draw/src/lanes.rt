@@ -1,45 +1,12 @@
 //! The first words of neighbouring keys, four keys at a time.
-
-ghost use Rattle.std.specs.Prelude.{◌≡◌, ℕ, ◌+◌, ◌*◌, ◌/◌, ◌%◌, ◌^◌, ◌<◌, slice_index};
-ghost use Rattle.rand_chacha.specs.Block.{add32, xor_rotate, quarter_round, column_round, diagonal_round, initial_state};
+ghost use Rattle.std.specs.Prelude.{◌≡◌, ℕ, ◌<◌, slice_index};
+ghost use Rattle.rand_chacha.specs.Block.{column_round, diagonal_round, initial_state};
 ghost use Rattle.rand_chacha.specs.ChaCha.{word_at};
 ghost use Rattle.rc_draw.specs.Neighbours.{neighbour};
 ghost use Rattle.rand_chacha.specs.Lanes.{lane};
 
+use crate::rounds::{add, quarter_rounds};
 use std::simd::u32x4;
-
-#[inline(always)]
-fn add(a: u32x4, b: u32x4) -> u32x4
-    ensures { (j : ℕ) → j < 4 → slice_index result j ≡ add32 (slice_index a j) (slice_index b j) }
-{
-    a + b
-}
-
-#[inline(always)]
-fn xor_rotate(a: u32x4, b: u32x4, k: u32) -> u32x4
-    requires { (0 < k) × (k < 32) }
-    ensures { (j : ℕ) → j < 4 → slice_index result j ≡ xor_rotate (slice_index a j) (slice_index b j) k }
-{
-    let x = a ^ b;
-    (x << u32x4::splat(k)) | (x >> u32x4::splat(32 - k))
-}
-
-#[inline(always)]
-fn quarter_round(a: u32x4, b: u32x4, c: u32x4, d: u32x4) -> (u32x4, u32x4, u32x4, u32x4)
-    ensures { (j : ℕ) → j < 4
-        → (slice_index result.0 j, slice_index result.1 j, slice_index result.2 j, slice_index result.3 j)
-        ≡ quarter_round (slice_index a j) (slice_index b j) (slice_index c j) (slice_index d j) }
-{
-    let a1 = add(a, b);
-    let d1 = xor_rotate(d, a1, 16);
-    let c1 = add(c, d1);
-    let b1 = xor_rotate(b, c1, 12);
-    let a2 = add(a1, b1);
-    let d2 = xor_rotate(d1, a2, 8);
-    let c2 = add(c1, d2);
-    let b2 = xor_rotate(b1, c2, 7);
-    (a2, b2, c2, d2)
-}
 
 #[inline(always)]
 fn column_round(x: [u32x4; 16]) -> [u32x4; 16]
@@ -63,10 +30,10 @@ fn column_round(x: [u32x4; 16]) -> [u32x4; 16]
         x14,
         x15,
     ] = x;
-    let (x0, x4, x8, x12) = quarter_round(x0, x4, x8, x12);
-    let (x1, x5, x9, x13) = quarter_round(x1, x5, x9, x13);
-    let (x2, x6, x10, x14) = quarter_round(x2, x6, x10, x14);
-    let (x3, x7, x11, x15) = quarter_round(x3, x7, x11, x15);
+    let (x0, x4, x8, x12) = quarter_rounds(x0, x4, x8, x12);
+    let (x1, x5, x9, x13) = quarter_rounds(x1, x5, x9, x13);
+    let (x2, x6, x10, x14) = quarter_rounds(x2, x6, x10, x14);
+    let (x3, x7, x11, x15) = quarter_rounds(x3, x7, x11, x15);
     [
         x0, x1, x2, x3, x4, x5, x6, x7, x8, x9, x10, x11, x12, x13, x14, x15,
     ]
@@ -94,10 +61,10 @@ fn diagonal_round(x: [u32x4; 16]) -> [u32x4; 16]
         x14,
         x15,
     ] = x;
-    let (x0, x5, x10, x15) = quarter_round(x0, x5, x10, x15);
-    let (x1, x6, x11, x12) = quarter_round(x1, x6, x11, x12);
-    let (x2, x7, x8, x13) = quarter_round(x2, x7, x8, x13);
-    let (x3, x4, x9, x14) = quarter_round(x3, x4, x9, x14);
+    let (x0, x5, x10, x15) = quarter_rounds(x0, x5, x10, x15);
+    let (x1, x6, x11, x12) = quarter_rounds(x1, x6, x11, x12);
+    let (x2, x7, x8, x13) = quarter_rounds(x2, x7, x8, x13);
+    let (x3, x4, x9, x14) = quarter_rounds(x3, x4, x9, x14);
     [
         x0, x1, x2, x3, x4, x5, x6, x7, x8, x9, x10, x11, x12, x13, x14, x15,
     ]

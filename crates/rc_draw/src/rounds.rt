@@ -8,7 +8,7 @@ use std::simd::u32x4;
 /// The four rows of a state.
 pub(crate) type StateRows = (u32x4, u32x4, u32x4, u32x4);
 
-/// The sums of the words of two rows, modulo 2^32.
+/// The sums of the words of two vectors, modulo 2^32.
 #[inline(always)]
 pub(crate) fn add(a: u32x4, b: u32x4) -> u32x4
     ensures { (j : ℕ) → j < 4 → slice_index result j ≡ add32 (slice_index a j) (slice_index b j) }
@@ -25,9 +25,9 @@ fn xor_rotate(a: u32x4, b: u32x4, k: u32) -> u32x4
     (x << u32x4::splat(k)) | (x >> u32x4::splat(32 - k))
 }
 
-// The quarter round on the words that stand at one place of the four rows, at each of the four places.
+/// The quarter round on the words that stand at one place of four vectors, at each of the four places.
 #[inline(always)]
-fn quarter_rounds(a: u32x4, b: u32x4, c: u32x4, d: u32x4) -> StateRows
+pub(crate) fn quarter_rounds(a: u32x4, b: u32x4, c: u32x4, d: u32x4) -> StateRows
     ensures { (j : ℕ) → j < 4
         → (slice_index result.0 j, slice_index result.1 j, slice_index result.2 j, slice_index result.3 j)
         ≡ quarter_round (slice_index a j) (slice_index b j) (slice_index c j) (slice_index d j) }

@@ -1,5 +1,0 @@
-use Rattle.rc_draw.proofs.LaneLemmas.{shifts_rotate}
-use Rattle.rc_draw.proofs.lanes.xor_rotate.Goals as goal
-
-pub returns : goal.returns
-returns c = shifts_rotate c.args.k c.requires.0 c.requires.1 c.args.a c.fits-a.0 c.args.b c.fits-b.0
