@@ -15,26 +15,10 @@ use Rattle.rc_check.specs.declared.grammar.Rule.TheVariants as rule
 -- a card's list
 pub card_forms : (naming : Naming) (scope : Scope) (rule : Rule) (parts : Trees)
     → card_rule naming scope rule parts ≡ card_form naming scope rule parts
-card_forms naming scope rule.TopCard nil = refl
-card_forms naming scope rule.TopCard (cons head nil) = refl
 card_forms naming scope rule.TopCard (cons head (cons cards nil)) = refl
-card_forms naming scope rule.TopCard (cons head (cons cards (cons part parts))) = refl
-card_forms naming scope rule.BottomCard nil = refl
-card_forms naming scope rule.BottomCard (cons head nil) = refl
 card_forms naming scope rule.BottomCard (cons head (cons cards nil)) = refl
-card_forms naming scope rule.BottomCard (cons head (cons cards (cons part parts))) = refl
-card_forms naming scope rule.MaxCard nil = refl
-card_forms naming scope rule.MaxCard (cons head nil) = refl
-card_forms naming scope rule.MaxCard (cons head (cons cards nil)) = refl
-card_forms naming scope rule.MaxCard (cons head (cons cards (cons using nil))) = refl
 card_forms naming scope rule.MaxCard (cons head (cons cards (cons using (cons map nil)))) = refl
-card_forms naming scope rule.MaxCard (cons head (cons cards (cons using (cons map (cons part parts))))) = refl
-card_forms naming scope rule.MinCard nil = refl
-card_forms naming scope rule.MinCard (cons head nil) = refl
-card_forms naming scope rule.MinCard (cons head (cons cards nil)) = refl
-card_forms naming scope rule.MinCard (cons head (cons cards (cons using nil))) = refl
 card_forms naming scope rule.MinCard (cons head (cons cards (cons using (cons map nil)))) = refl
-card_forms naming scope rule.MinCard (cons head (cons cards (cons using (cons map (cons part parts))))) = refl
 card_forms naming scope rule parts = refl
 
 -- a reading, and two behind it of which the last goes by the other, and what is made of them
@@ -74,67 +58,28 @@ valued (Some c) (Some a) (Some v) = refl
 -- a list of cards, which begins here
 pub coll_forms : (naming : Naming) (scope : Scope) (from : ℕ) (rule : Rule) (parts : Trees)
     → coll_rule naming scope from rule parts ≡ coll_form naming scope from rule parts
-coll_forms naming scope from rule.Location parts = refl
-coll_forms naming scope from rule.Filter nil = refl
-coll_forms naming scope from rule.Filter (cons head nil) = refl
-coll_forms naming scope from rule.Filter (cons head (cons cards nil)) = refl
-coll_forms naming scope from rule.Filter (cons head (cons cards (cons variable nil))) = refl
 coll_forms naming scope from rule.Filter (cons head (cons cards (cons variable (cons t nil)))) =
     one_then filtered (coll_at naming scope cards) (binder_at naming.names.vars scope variable)
     (λ bound. test_at naming (bind naming scope bound card_sort) t)
-coll_forms naming scope from rule.Filter (cons head (cons cards (cons variable (cons t (cons part parts))))) = refl
-coll_forms naming scope from rule.Union nil = refl
 coll_forms naming scope from rule.Union (cons head parts) = refl
-coll_forms naming scope from rule.Known nil = refl
-coll_forms naming scope from rule.Known (cons head nil) = refl
 coll_forms naming scope from rule.Known (cons head (cons loc nil)) = refl
-coll_forms naming scope from rule.Known (cons head (cons loc (cons part parts))) = refl
 coll_forms naming scope from rule parts = refl
 
 -- a number's list
 pub int_forms : (naming : Naming) (scope : Scope) (rule : Rule) (parts : Trees)
     → int_rule naming scope rule parts ≡ int_form naming scope rule parts
-int_forms naming scope rule.Counter parts = refl
-int_forms naming scope rule.Size nil = refl
-int_forms naming scope rule.Size (cons head nil) = refl
 int_forms naming scope rule.Size (cons head (cons cards nil)) = refl
-int_forms naming scope rule.Size (cons head (cons cards (cons part parts))) = refl
-int_forms naming scope rule.Sum nil = refl
-int_forms naming scope rule.Sum (cons head nil) = refl
-int_forms naming scope rule.Sum (cons head (cons cards nil)) = refl
-int_forms naming scope rule.Sum (cons head (cons cards (cons using nil))) = refl
 int_forms naming scope rule.Sum (cons head (cons cards (cons using (cons map nil)))) = refl
-int_forms naming scope rule.Sum (cons head (cons cards (cons using (cons map (cons part parts))))) = refl
-int_forms naming scope rule.PointsOf nil = refl
-int_forms naming scope rule.PointsOf (cons head nil) = refl
-int_forms naming scope rule.PointsOf (cons head (cons card nil)) = refl
-int_forms naming scope rule.PointsOf (cons head (cons card (cons using nil))) = refl
 int_forms naming scope rule.PointsOf (cons head (cons card (cons using (cons map nil)))) = refl
-int_forms naming scope rule.PointsOf (cons head (cons card (cons using (cons map (cons part parts))))) = refl
-int_forms naming scope rule.Plus nil = refl
-int_forms naming scope rule.Plus (cons head nil) = refl
-int_forms naming scope rule.Plus (cons head (cons a nil)) = refl
 int_forms naming scope rule.Plus (cons head (cons a (cons b nil))) = refl
-int_forms naming scope rule.Plus (cons head (cons a (cons b (cons part parts)))) = refl
-int_forms naming scope rule.Minus nil = refl
-int_forms naming scope rule.Minus (cons head nil) = refl
-int_forms naming scope rule.Minus (cons head (cons a nil)) = refl
 int_forms naming scope rule.Minus (cons head (cons a (cons b nil))) = refl
-int_forms naming scope rule.Minus (cons head (cons a (cons b (cons part parts)))) = refl
-int_forms naming scope rule.Times nil = refl
-int_forms naming scope rule.Times (cons head nil) = refl
-int_forms naming scope rule.Times (cons head (cons a nil)) = refl
 int_forms naming scope rule.Times (cons head (cons a (cons b nil))) = refl
-int_forms naming scope rule.Times (cons head (cons a (cons b (cons part parts)))) = refl
 int_forms naming scope rule parts = refl
 
 -- a card and an attribute
 attr_forms : (naming : Naming) (scope : Scope) (parts : Trees) → value_parts naming scope parts ≡ card_and_attr naming scope parts
-attr_forms naming scope nil = refl
-attr_forms naming scope (cons head nil) = refl
-attr_forms naming scope (cons head (cons card nil)) = refl
 attr_forms naming scope (cons head (cons card (cons attr nil))) = refl
-attr_forms naming scope (cons head (cons card (cons attr (cons part parts)))) = refl
+attr_forms naming scope parts = refl
 
 -- a side's list
 abbrev pub side_rule : Naming → Scope → Rule → Trees → Option Side
@@ -156,65 +101,21 @@ side_forms naming scope rule parts =
 -- a test's list
 pub test_forms : (naming : Naming) (scope : Scope) (rule : Rule) (parts : Trees)
     → test_rule naming scope rule parts ≡ test_form naming scope rule parts
-test_forms naming scope rule.Equal nil = refl
-test_forms naming scope rule.Equal (cons head nil) = refl
-test_forms naming scope rule.Equal (cons head (cons a nil)) = refl
 test_forms naming scope rule.Equal (cons head (cons a (cons b nil))) = refl
-test_forms naming scope rule.Equal (cons head (cons a (cons b (cons part parts)))) = refl
-test_forms naming scope rule.NotEqual nil = refl
-test_forms naming scope rule.NotEqual (cons head nil) = refl
-test_forms naming scope rule.NotEqual (cons head (cons a nil)) = refl
 test_forms naming scope rule.NotEqual (cons head (cons a (cons b nil))) = refl
-test_forms naming scope rule.NotEqual (cons head (cons a (cons b (cons part parts)))) = refl
-test_forms naming scope rule.Less nil = refl
-test_forms naming scope rule.Less (cons head nil) = refl
-test_forms naming scope rule.Less (cons head (cons a nil)) = refl
 test_forms naming scope rule.Less (cons head (cons a (cons b nil))) = refl
-test_forms naming scope rule.Less (cons head (cons a (cons b (cons part parts)))) = refl
-test_forms naming scope rule.LessOrEqual nil = refl
-test_forms naming scope rule.LessOrEqual (cons head nil) = refl
-test_forms naming scope rule.LessOrEqual (cons head (cons a nil)) = refl
 test_forms naming scope rule.LessOrEqual (cons head (cons a (cons b nil))) = refl
-test_forms naming scope rule.LessOrEqual (cons head (cons a (cons b (cons part parts)))) = refl
-test_forms naming scope rule.More nil = refl
-test_forms naming scope rule.More (cons head nil) = refl
-test_forms naming scope rule.More (cons head (cons a nil)) = refl
 test_forms naming scope rule.More (cons head (cons a (cons b nil))) = refl
-test_forms naming scope rule.More (cons head (cons a (cons b (cons part parts)))) = refl
-test_forms naming scope rule.MoreOrEqual nil = refl
-test_forms naming scope rule.MoreOrEqual (cons head nil) = refl
-test_forms naming scope rule.MoreOrEqual (cons head (cons a nil)) = refl
 test_forms naming scope rule.MoreOrEqual (cons head (cons a (cons b nil))) = refl
-test_forms naming scope rule.MoreOrEqual (cons head (cons a (cons b (cons part parts)))) = refl
-test_forms naming scope rule.Is nil = refl
-test_forms naming scope rule.Is (cons head nil) = refl
-test_forms naming scope rule.Is (cons head (cons card nil)) = refl
-test_forms naming scope rule.Is (cons head (cons card (cons attr nil))) = refl
 test_forms naming scope rule.Is (cons head (cons card (cons attr (cons value nil)))) =
     valued (card_at naming scope card) (name_at naming.names.attrs attr) (name_at naming.names.values value)
-test_forms naming scope rule.Is (cons head (cons card (cons attr (cons value (cons part parts))))) = refl
-test_forms naming scope rule.And nil = refl
 test_forms naming scope rule.And (cons head parts) = refl
-test_forms naming scope rule.Or nil = refl
 test_forms naming scope rule.Or (cons head parts) = refl
-test_forms naming scope rule.Not nil = refl
-test_forms naming scope rule.Not (cons head nil) = refl
 test_forms naming scope rule.Not (cons head (cons t nil)) = refl
-test_forms naming scope rule.Not (cons head (cons t (cons part parts))) = refl
-test_forms naming scope rule.ForAll nil = refl
-test_forms naming scope rule.ForAll (cons head nil) = refl
-test_forms naming scope rule.ForAll (cons head (cons range nil)) = refl
-test_forms naming scope rule.ForAll (cons head (cons range (cons variable nil))) = refl
 test_forms naming scope rule.ForAll (cons head (cons range (cons variable (cons t nil)))) =
     over (is_form_word keyword.Player range) (coll_at naming scope range) (binder_at naming.names.vars scope variable)
     (λ sort bound. test_at naming (bind naming scope bound sort) t) all_of
-test_forms naming scope rule.ForAll (cons head (cons range (cons variable (cons t (cons part parts))))) = refl
-test_forms naming scope rule.ForAny nil = refl
-test_forms naming scope rule.ForAny (cons head nil) = refl
-test_forms naming scope rule.ForAny (cons head (cons range nil)) = refl
-test_forms naming scope rule.ForAny (cons head (cons range (cons variable nil))) = refl
 test_forms naming scope rule.ForAny (cons head (cons range (cons variable (cons t nil)))) =
     over (is_form_word keyword.Player range) (coll_at naming scope range) (binder_at naming.names.vars scope variable)
     (λ sort bound. test_at naming (bind naming scope bound sort) t) any_of
-test_forms naming scope rule.ForAny (cons head (cons range (cons variable (cons t (cons part parts))))) = refl
 test_forms naming scope rule parts = refl
