@@ -75,31 +75,19 @@ said-append kind names xs ys =
 
 -- an atom mentions nothing itself
 pub words_in-word : (kind : Kind) (bytes : List ℕ) (from to : ℕ) → words_in kind (word bytes from to) ≡ []
-words_in-word attrs bytes from to = refl
 words_in-word values bytes from to = refl
-words_in-word maps bytes from to = refl
-words_in-word locs bytes from to = refl
-words_in-word nums bytes from to = refl
-words_in-word vars bytes from to = refl
+words_in-word kind bytes from to = refl
 
 -- no part mentions nothing
 pub all_words_in-nil : (kind : Kind) → all_words_in kind nil ≡ []
-all_words_in-nil attrs = refl
 all_words_in-nil values = refl
-all_words_in-nil maps = refl
-all_words_in-nil locs = refl
-all_words_in-nil nums = refl
-all_words_in-nil vars = refl
+all_words_in-nil kind = refl
 
 -- the first part, and the others
 pub all_words_in-cons : (kind : Kind) (tree : Tree) (trees : Trees)
     → all_words_in kind (cons tree trees) ≡ words_in kind tree ++ all_words_in kind trees
-all_words_in-cons attrs tree trees = refl
 all_words_in-cons values tree trees = refl
-all_words_in-cons maps tree trees = refl
-all_words_in-cons locs tree trees = refl
-all_words_in-cons nums tree trees = refl
-all_words_in-cons vars tree trees = refl
+all_words_in-cons kind tree trees = refl
 
 -- where no variable is bound, variables stand in the parts
 bound_words-plain : (head : Tree) (rest : Trees) → is_binder head ≡ false

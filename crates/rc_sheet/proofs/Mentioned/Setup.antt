@@ -93,50 +93,30 @@ branch_words kind trees = []
 
 -- no group, or branch, has none
 group_words-nil : (kind : Kind) → group_words kind nil ≡ []
-group_words-nil attrs = refl
 group_words-nil values = refl
-group_words-nil maps = refl
-group_words-nil locs = refl
-group_words-nil nums = refl
-group_words-nil vars = refl
+group_words-nil kind = refl
 
 branch_words-nil : (kind : Kind) → branch_words kind nil ≡ []
-branch_words-nil attrs = refl
 branch_words-nil values = refl
-branch_words-nil maps = refl
-branch_words-nil locs = refl
-branch_words-nil nums = refl
-branch_words-nil vars = refl
+branch_words-nil kind = refl
 
 -- the first group, or branch, and the others
 group_words-cons : (kind : Kind) (bytes : List ℕ) (branches rest : Trees) (a b c d e f : ℕ)
     → group_words kind (cons (list (cons (word bytes a b) (cons (list branches c d) nil)) e f) rest)
     ≡ attr_words kind bytes ++ branch_words kind branches ++ group_words kind rest
-group_words-cons attrs bytes branches rest a b c d e f = refl
 group_words-cons values bytes branches rest a b c d e f = refl
-group_words-cons maps bytes branches rest a b c d e f = refl
-group_words-cons locs bytes branches rest a b c d e f = refl
-group_words-cons nums bytes branches rest a b c d e f = refl
-group_words-cons vars bytes branches rest a b c d e f = refl
+group_words-cons kind bytes branches rest a b c d e f = refl
 
 branch_words-word : (kind : Kind) (bytes : List ℕ) (rest : Trees) (a b : ℕ)
     → branch_words kind (cons (word bytes a b) rest) ≡ value_words kind bytes ++ branch_words kind rest
-branch_words-word attrs bytes rest a b = refl
 branch_words-word values bytes rest a b = refl
-branch_words-word maps bytes rest a b = refl
-branch_words-word locs bytes rest a b = refl
-branch_words-word nums bytes rest a b = refl
-branch_words-word vars bytes rest a b = refl
+branch_words-word kind bytes rest a b = refl
 
 branch_words-list : (kind : Kind) (bytes : List ℕ) (groups rest : Trees) (a b c d : ℕ)
     → branch_words kind (cons (list (cons (word bytes a b) groups) c d) rest)
     ≡ value_words kind bytes ++ group_words kind groups ++ branch_words kind rest
-branch_words-list attrs bytes groups rest a b c d = refl
 branch_words-list values bytes groups rest a b c d = refl
-branch_words-list maps bytes groups rest a b c d = refl
-branch_words-list locs bytes groups rest a b c d = refl
-branch_words-list nums bytes groups rest a b c d = refl
-branch_words-list vars bytes groups rest a b c d = refl
+branch_words-list kind bytes groups rest a b c d = refl
 
 -- three mentions, one behind the other
 three_named : {kind : Kind} {names : Names} (first : Mention) (xs ys : List Mention) (a b c : List (List ℕ))
@@ -202,12 +182,8 @@ entry_words kind trees = []
 
 -- no entry has none
 entry_words-nil : (kind : Kind) → entry_words kind nil ≡ []
-entry_words-nil attrs = refl
 entry_words-nil values = refl
-entry_words-nil maps = refl
-entry_words-nil locs = refl
-entry_words-nil nums = refl
-entry_words-nil vars = refl
+entry_words-nil kind = refl
 
 -- the words of an entry's values
 abbrev listed_words : Kind → Trees → List (List ℕ)
@@ -216,33 +192,21 @@ listed_words kind trees = []
 
 -- of none there are none
 listed_words-nil : (kind : Kind) → listed_words kind nil ≡ []
-listed_words-nil attrs = refl
 listed_words-nil values = refl
-listed_words-nil maps = refl
-listed_words-nil locs = refl
-listed_words-nil nums = refl
-listed_words-nil vars = refl
+listed_words-nil kind = refl
 
 -- the first value, and the others
 listed_words-cons : (kind : Kind) (bytes : List ℕ) (a b : ℕ) (trees : Trees)
     → listed_words kind (cons (word bytes a b) trees) ≡ value_words kind bytes ++ listed_words kind trees
-listed_words-cons attrs bytes a b trees = refl
 listed_words-cons values bytes a b trees = refl
-listed_words-cons maps bytes a b trees = refl
-listed_words-cons locs bytes a b trees = refl
-listed_words-cons nums bytes a b trees = refl
-listed_words-cons vars bytes a b trees = refl
+listed_words-cons kind bytes a b trees = refl
 
 -- the first entry, and the others
 entry_words-cons : (kind : Kind) (bytes : List ℕ) (listed more rest : Trees) (a b c d e f : ℕ)
     → entry_words kind (cons (list (cons (word bytes a b) (cons (list listed c d) more)) e f) rest)
     ≡ attr_words kind bytes ++ listed_words kind listed ++ entry_words kind rest
-entry_words-cons attrs bytes listed more rest a b c d e f = refl
 entry_words-cons values bytes listed more rest a b c d e f = refl
-entry_words-cons maps bytes listed more rest a b c d e f = refl
-entry_words-cons locs bytes listed more rest a b c d e f = refl
-entry_words-cons nums bytes listed more rest a b c d e f = refl
-entry_words-cons vars bytes listed more rest a b c d e f = refl
+entry_words-cons kind bytes listed more rest a b c d e f = refl
 
 -- values, one after the other
 values_named : (kind : Kind) (naming : Naming) (numbers : List ℕ) (trees : Trees) → StandValues naming numbers trees

@@ -139,9 +139,7 @@ held scope (team_of_var var) P (word bytes from to) stands plain bound row = abs
 -- the kind of a word of a kind
 kind_known : (kind : LocKind) → kind_by (kind_bytes kind) ≡ kind
 kind_known vloc = refl
-kind_known iloc = refl
-kind_known hloc = refl
-kind_known mem = refl
+kind_known kind = refl
 
 -- one description for one word and one class
 one_description : (x y : Option LocName) (bytes : List ℕ) (class : Class)

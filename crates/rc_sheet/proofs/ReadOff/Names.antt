@@ -274,9 +274,7 @@ holder_means scope tree =
 -- the word of a kind
 pub kind_is : (kind : LocKind) → text_of (kind_keyword kind) ≡ kind_bytes kind
 kind_is vloc = refl
-kind_is iloc = refl
-kind_is hloc = refl
-kind_is mem = refl
+kind_is kind = refl
 
 -- the word of the kind of the locations of a name
 kind_means : (found : LocName) (tree : Tree) → is_form_word (kind_keyword found.kind) tree ≡ true

@@ -173,9 +173,7 @@ variable_shaped p scope sort var (word bytes from to) bound takes =
 -- the word of a kind
 kind_taken : (kind : LocKind) → unless (is_kind (kind_bytes kind)) Shape ≡ None
 kind_taken vloc = refl
-kind_taken iloc = refl
-kind_taken hloc = refl
-kind_taken mem = refl
+kind_taken kind = refl
 
 kind_by : (found : Option LocName) (bytes : List ℕ) → option_map (λ loc. kind_bytes loc.kind) found ≡ Some bytes
     → unless (is_kind bytes) Shape ≡ None

@@ -46,9 +46,7 @@ mem_told (Some l) kind b is is' =
   where
     told : (kind : LocKind) → is_word keyword.Mem (kind_bytes kind) ≡ is_mem kind
     told vloc = refl
-    told iloc = refl
-    told hloc = refl
-    told mem = refl
+    told kind = refl
 
 -- a stage that is around is around
 stage_around : (around : Around) (class : Class) → IsInStage around class → is_in_stage around class ≡ true

@@ -78,10 +78,7 @@ sides_same side first second is is' = ap₂ differ is is' ∙ alike side
   where
     alike : (side : SideSort) → not (same_side side side) ≡ false
     alike number_side = refl
-    alike card_side = refl
-    alike value_side = refl
-    alike player_side = refl
-    alike team_side = refl
+    alike side = refl
 
 -- the sort of an owner as a side
 abbrev pub side_of_class : Class → SideSort

@@ -67,18 +67,8 @@ module _ (naming : Naming) where
     sides_alike bound (eq_card a b) = ap₂ (λ x y. x ∷ y ∷ []) (card_alike bound a) (card_alike bound b)
     sides_alike bound (eq_attr a attr b attr') =
         ap₂ (λ x y. attr_form naming x attr ∷ attr_form naming y attr' ∷ []) (card_alike bound a) (card_alike bound b)
-    sides_alike bound (eq_who who who') = refl
-    sides_alike bound (ne t) = refl
-    sides_alike bound (less a b) = refl
-    sides_alike bound (less_eq a b) = refl
-    sides_alike bound (more a b) = refl
-    sides_alike bound (more_eq a b) = refl
     sides_alike bound (has_value card attr value) = refl
-    sides_alike bound (and_of tests) = refl
-    sides_alike bound (or_of tests) = refl
-    sides_alike bound (not_of t) = refl
-    sides_alike bound (all_of domain var t) = refl
-    sides_alike bound (any_of domain var t) = refl
+    sides_alike bound t = refl
 
     tests_alike : (bound : Bound) (tests : Tests)
         → test_forms naming bound (tests_unplaced tests) ≡ test_forms naming bound tests
