@@ -58,24 +58,8 @@ forms symbol.Branch is = absurd (false≢true is)
 forms symbol.Entries is = absurd (false≢true is)
 forms symbol.Entry is = absurd (false≢true is)
 forms symbol.Values is = absurd (false≢true is)
-forms symbol.Scoring is = refl
-forms symbol.Item is = refl
-forms symbol.End is = refl
 forms symbol.Alternative is = refl
-forms symbol.Domain is = refl
-forms symbol.Effect is = refl
-forms symbol.Spot is = refl
-forms symbol.Location is = refl
-forms symbol.Counter is = refl
-forms symbol.Holder is = refl
-forms symbol.Owner is = refl
-forms symbol.Player is = refl
-forms symbol.Card is = refl
-forms symbol.Collection is = refl
-forms symbol.Members is = refl
-forms symbol.Integer is = refl
-forms symbol.Test is = refl
-forms symbol.Side is = refl
+forms place is = refl
 
 form_at : (at : Symbol) (parts : Trees) → gives_nothing at ≡ true → IfSome (rule_of at parts) (λ rule. form_gives_nothing rule ≡ true)
 form_at at nil is = tt
@@ -97,10 +81,8 @@ ungiven used_attribute is = refl
 ungiven used_value is = refl
 ungiven used_map is = refl
 ungiven given_value is = absurd (false≢true is)
-ungiven deck_location is = refl
-ungiven card_location is = refl
 ungiven reference_location is = refl
-ungiven second_side is = refl
+ungiven role is = refl
 
 front_role : (roles : List Role) (index : ℕ) → list_all (λ role. not (is_given role)) roles ≡ true
     → is_given (slice_index_or roles index no_role) ≡ false
@@ -195,10 +177,8 @@ no_value used_attribute bytes words is = refl
 no_value used_value bytes words is = refl
 no_value used_map bytes words is = refl
 no_value given_value bytes words is = absurd (false≢true (sym is))
-no_value deck_location bytes words is = refl
-no_value card_location bytes words is = refl
 no_value reference_location bytes words is = refl
-no_value second_side bytes words is = refl
+no_value role bytes words is = refl
 
 -- the parts of a form, where it is one
 of_form : (known : Whole) (at : Standing) (parts : Trees) (from : ℕ) (inner : Rule → List Part) (found : Option Rule)
