@@ -38,20 +38,21 @@ pub fn set_number(
     ensures quiet { board.old.notes ≡ false → IsOk result }
 {
     match value {
-        IntExpr::Lit(_) => change(context, Change::Set, num, value, board, frames),
-        _ => change_number(context, Change::Set, num, value, board, frames),
+        IntExpr::Lit(_) => change(context, num, value, board, frames, Change::Set),
+        _ => change_number(context, num, value, board, frames, Change::Set),
     }
 }
 
-/// Changes a number by the value of an expression. A value that is one number takes no call.
+/// Changes a number by the value of an expression. What each kind of value takes stands in a function of its own, so
+/// that none keeps what another one needs.
 #[inline(never)]
 pub fn change_number(
     context: &Context,
-    how: Change,
     num: &Num,
     value: &IntExpr,
     board: &mut Board,
     frames: &Frames,
+    how: Change,
 ) -> Result<(), Memory>
     requires stands { IsContextOf context.now board.old.laid frames.now.items }
     requires well { in_scope context.now IsEffectUnder (effect_by how (num_seen num.now) (int_seen value.now)) }
@@ -62,21 +63,21 @@ pub fn change_number(
     ensures quiet { board.old.notes ≡ false → IsOk result }
 {
     match value {
-        IntExpr::Lit(_) => change(context, how, num, value, board, frames),
-        IntExpr::Num(_) => change(context, how, num, value, board, frames),
-        _ => change_calculated(context, how, num, value, board, frames),
+        IntExpr::Lit(_) => change_by_literal(context, num, value, board, frames, how),
+        IntExpr::Num(_) => change_by_number(context, num, value, board, frames, how),
+        _ => change_calculated(context, num, value, board, frames, how),
     }
 }
 
-// The same, whatever the value takes.
+// The same by a number that is written out.
 #[inline(never)]
-fn change_calculated(
+fn change_by_literal(
     context: &Context,
-    how: Change,
     num: &Num,
     value: &IntExpr,
     board: &mut Board,
     frames: &Frames,
+    how: Change,
 ) -> Result<(), Memory>
     requires stands { IsContextOf context.now board.old.laid frames.now.items }
     requires well { in_scope context.now IsEffectUnder (effect_by how (num_seen num.now) (int_seen value.now)) }
@@ -86,18 +87,66 @@ fn change_calculated(
     ensures keeps { Keeps board.old board.new }
     ensures quiet { board.old.notes ≡ false → IsOk result }
 {
-    change(context, how, num, value, board, frames)
+    match value {
+        IntExpr::Lit(_) => change(context, num, value, board, frames, how),
+        _ => change_calculated(context, num, value, board, frames, how),
+    }
+}
+
+// The same by a number that the game keeps.
+#[inline(never)]
+fn change_by_number(
+    context: &Context,
+    num: &Num,
+    value: &IntExpr,
+    board: &mut Board,
+    frames: &Frames,
+    how: Change,
+) -> Result<(), Memory>
+    requires stands { IsContextOf context.now board.old.laid frames.now.items }
+    requires well { in_scope context.now IsEffectUnder (effect_by how (num_seen num.now) (int_seen value.now)) }
+    ensures leads { OnOk result (LeadsTo context.now
+        (effect_by how (num_seen num.now)
+        (int_seen value.now)) board.old.laid frames.now.items board.new.laid frames.now.items) }
+    ensures keeps { Keeps board.old board.new }
+    ensures quiet { board.old.notes ≡ false → IsOk result }
+{
+    match value {
+        IntExpr::Num(_) => change(context, num, value, board, frames, how),
+        _ => change_calculated(context, num, value, board, frames, how),
+    }
+}
+
+// The same, whatever the value takes.
+#[inline(never)]
+fn change_calculated(
+    context: &Context,
+    num: &Num,
+    value: &IntExpr,
+    board: &mut Board,
+    frames: &Frames,
+    how: Change,
+) -> Result<(), Memory>
+    requires stands { IsContextOf context.now board.old.laid frames.now.items }
+    requires well { in_scope context.now IsEffectUnder (effect_by how (num_seen num.now) (int_seen value.now)) }
+    ensures leads { OnOk result (LeadsTo context.now
+        (effect_by how (num_seen num.now)
+        (int_seen value.now)) board.old.laid frames.now.items board.new.laid frames.now.items) }
+    ensures keeps { Keeps board.old board.new }
+    ensures quiet { board.old.notes ≡ false → IsOk result }
+{
+    change(context, num, value, board, frames, how)
 }
 
 // The same, in line.
 #[inline(always)]
 fn change(
     context: &Context,
-    how: Change,
     num: &Num,
     value: &IntExpr,
     board: &mut Board,
     frames: &Frames,
+    how: Change,
 ) -> Result<(), Memory>
     requires stands { IsContextOf context.now board.old.laid frames.now.items }
     requires well { in_scope context.now IsEffectUnder (effect_by how (num_seen num.now) (int_seen value.now)) }

@@ -51,10 +51,10 @@ pub fn do_simple<D: Dealer>(
         Effect::Shuffle(loc) => shuffle(context, loc, board, &*frames, dealer),
         Effect::Set(num, value) => set_number(context, num, value, board, &*frames),
         Effect::Inc(num, value) => {
-            change_number(context, Change::Increase, num, value, board, &*frames)
+            change_number(context, num, value, board, &*frames, Change::Increase)
         }
         Effect::Dec(num, value) => {
-            change_number(context, Change::Decrease, num, value, board, &*frames)
+            change_number(context, num, value, board, &*frames, Change::Decrease)
         }
         Effect::Next(who) => {
             name_next(context, *who, board.table(), frames);
