@@ -1,7 +1,7 @@
 //! Cards that go somewhere else.
-ghost use Rattle.std.specs.Prelude.{◌≡◌, ◌<◌, ◌≤◌, false, length, fold, All, OnOk, IsOk};
+ghost use Rattle.std.specs.Prelude.{◌≡◌, ◌<◌, ◌≤◌, false, length, fold, All, IfSome, OnOk, IsOk};
 ghost use Rattle.rc_base.specs.Limits.{most_in_collection};
-ghost use Rattle.rc_sheet_spec.specs.Sheet.{move, move_all as move_all_of};
+ghost use Rattle.rc_sheet_spec.specs.Sheet.{move, move_all as move_all_of, cards_in, top};
 ghost use Rattle.rc_play_spec.specs.Bound.{HoldsCards, IsCardOf};
 ghost use Rattle.rc_play_spec.specs.Effects.{move_card};
 ghost use Rattle.rc_play_spec.specs.Value.{coll_value};
@@ -15,6 +15,7 @@ ghost use Rattle.rc_value.specs.Context.{scene_in, IsContextOf, in_scope};
 ghost use Rattle.rc_value.specs.Under.{IsCollUnder, IsEffectUnder};
 ghost use Rattle.rc_value.specs.Leads.{LeadsTo};
 ghost use Rattle.rc_undo.specs.Undo.{Keeps};
+ghost use Rattle.rc_undo.specs.Piled.{topped};
 
 use arrayvec::ArrayVec;
 use rc_ast::{CardExpr, CollExpr, End, Loc};
@@ -76,13 +77,78 @@ pub fn move_all(
     let Some(at) = loc_now(context, loc, board.table(), frames) else {
         return Ok(());
     };
+    match location_to_pile(cards, end) {
+        Some(from) => pile_up(context, from, at, board, frames),
+        None => put_cards(context, cards, end, at, board, frames),
+    }
+}
+
+// The location, where all that is in one goes on top of another one.
+#[inline(always)]
+fn location_to_pile(cards: &CollExpr, end: End) -> Option<&Loc>
+    ensures cards { IfSome result (λ loc. coll_seen cards.now ≡ cards_in (loc_seen loc.now)) }
+    ensures end { IfSome result (λ _. end_seen end ≡ top) }
+{
+    match end {
+        End::Top => match cards {
+            CollExpr::Loc(loc) => Some(loc),
+            _ => None,
+        },
+        End::Bottom => None,
+    }
+}
+
+// Puts all that is in a location on top of another one. No list of cards is made of it.
+#[inline(always)]
+fn pile_up(
+    context: &Context,
+    loc: &Loc,
+    at: u16,
+    board: &mut Board,
+    frames: &Frames,
+) -> Result<(), Memory>
+    requires stands { IsContextOf context.now board.old.laid frames.now.items }
+    requires holds { HoldsCards board.old.laid.shape at }
+    ensures leads { OnOk result (board.new.laid
+        ≡ relaid board.old.laid (topped board.old.laid.shape at board.old.laid.table
+        (coll_value (scene_in context.now board.old.laid frames.now.items) context.now.scope.now
+        (cards_in (loc_seen loc.now))))) }
+    ensures keeps { Keeps board.old board.new }
+    ensures quiet { board.old.notes ≡ false → IsOk result }
+{
+    match loc_now(context, loc, board.table(), frames) {
+        Some(from) => board.pile(from, at),
+        None => Ok(()),
+    }
+}
+
+// Puts all cards of a collection there. One alone takes no list.
+#[inline(always)]
+fn put_cards(
+    context: &Context,
+    cards: &CollExpr,
+    end: End,
+    at: u16,
+    board: &mut Board,
+    frames: &Frames,
+) -> Result<(), Memory>
+    requires stands { IsContextOf context.now board.old.laid frames.now.items }
+    requires well { in_scope context.now IsCollUnder (coll_seen cards.now) }
+    requires holds { HoldsCards board.old.laid.shape at }
+    ensures leads { OnOk result (board.new.laid
+        ≡ relaid board.old.laid (fold (move_card board.old.laid.shape (end_seen end) at) board.old.laid.table
+        (coll_value (scene_in context.now board.old.laid frames.now.items) context.now.scope.now
+        (coll_seen cards.now)))) }
+    ensures keeps { Keeps board.old board.new }
+    ensures quiet { board.old.notes ≡ false → IsOk result }
+{
     match sole_card_now(context, cards, board.table(), frames) {
         Some(card) => put(board, card, end, at),
         None => put_some(context, cards, end, at, board, frames),
     }
 }
 
-// Puts all cards of a collection there. Few cards are kept in a small list.
+// The same. Few cards are kept in a small list.
 #[inline(never)]
 fn put_some(
     context: &Context,
