@@ -1,10 +1,10 @@
 //! Cards that go somewhere else.
-ghost use Rattle.std.specs.Prelude.{◌≡◌, ◌<◌, ◌≤◌, false, length, fold, All, IfSome, OnOk, IsOk};
+ghost use Rattle.std.specs.Prelude.{◌≡◌, ◌<◌, ◌≤◌, false, length, fold, option_map, All, IfSome, OnOk, IsOk};
 ghost use Rattle.rc_base.specs.Limits.{most_in_collection};
 ghost use Rattle.rc_sheet_spec.specs.Sheet.{move, move_all as move_all_of, cards_in, top};
 ghost use Rattle.rc_play_spec.specs.Bound.{HoldsCards, IsCardOf};
 ghost use Rattle.rc_play_spec.specs.Effects.{move_card};
-ghost use Rattle.rc_play_spec.specs.Value.{coll_value};
+ghost use Rattle.rc_play_spec.specs.Value.{card_value, coll_value};
 ghost use Rattle.rc_ast.specs.Names.{loc_seen};
 ghost use Rattle.rc_ast.specs.Expressions.{card_seen, coll_seen};
 ghost use Rattle.rc_ast.specs.Effects.{end_seen};
@@ -12,7 +12,7 @@ ghost use Rattle.rc_table.specs.Laid.{relaid};
 ghost use Rattle.rc_table.specs.Runs.{put_each};
 ghost use Rattle.rc_value.specs.Cards.{value_seen, values_seen};
 ghost use Rattle.rc_value.specs.Context.{scene_in, IsContextOf, in_scope};
-ghost use Rattle.rc_value.specs.Under.{IsCollUnder, IsEffectUnder};
+ghost use Rattle.rc_value.specs.Under.{IsCardUnder, IsCollUnder, IsEffectUnder};
 ghost use Rattle.rc_value.specs.Leads.{LeadsTo};
 ghost use Rattle.rc_undo.specs.Undo.{Keeps};
 ghost use Rattle.rc_undo.specs.Piled.{topped};
@@ -21,10 +21,11 @@ use arrayvec::ArrayVec;
 use rc_ast::{CardExpr, CollExpr, End, Loc};
 use rc_deck::Memory;
 use rc_rules::Frames;
+use rc_table::Table;
 use rc_undo::Board;
 use rc_value::{
-    Card, Cards, Context, FewCards, card_now, cards_now, few_cards_now, held_among, loc_now,
-    sole_card_now,
+    Card, Cards, Context, FewCards, bare, card_now, cards_now, few_cards_now, held_among, loc_now,
+    scene_now, sole_card_now,
 };
 
 /// So many cards at least go in one go. Of fewer, each goes by itself, which is less work.
@@ -47,6 +48,10 @@ pub fn move_one(
     ensures keeps { Keeps board.old board.new }
     ensures quiet { board.old.notes ≡ false → IsOk result }
 {
+    match card {
+        CardExpr::Top(_) => return move_top(context, card, end, loc, board, frames),
+        _ => {}
+    }
     let Some(at) = loc_now(context, loc, board.table(), frames) else {
         return Ok(());
     };
@@ -54,6 +59,57 @@ pub fn move_one(
         return Ok(());
     };
     put(board, card, end, at)
+}
+
+// The same of a card on top of a collection.
+#[inline(never)]
+fn move_top(
+    context: &Context,
+    card: &CardExpr,
+    end: End,
+    loc: &Loc,
+    board: &mut Board,
+    frames: &Frames,
+) -> Result<(), Memory>
+    requires stands { IsContextOf context.now board.old.laid frames.now.items }
+    requires well { in_scope context.now IsEffectUnder (move (card_seen card.now) (end_seen end) (loc_seen loc.now)) }
+    ensures leads { OnOk result (LeadsTo context.now
+        (move (card_seen card.now) (end_seen end)
+        (loc_seen loc.now)) board.old.laid frames.now.items board.new.laid frames.now.items) }
+    ensures keeps { Keeps board.old board.new }
+    ensures quiet { board.old.notes ≡ false → IsOk result }
+{
+    let Some(at) = loc_now(context, loc, board.table(), frames) else {
+        return Ok(());
+    };
+    let Some(card) = card_to_move(context, card, board.table(), frames) else {
+        return Ok(());
+    };
+    put(board, card, end, at)
+}
+
+// The card that an expression stands for, if there is one. One on top of a location is read off it with no call.
+#[inline(always)]
+fn card_to_move(context: &Context, expr: &CardExpr, table: &Table, frames: &Frames) -> Option<Card>
+    requires stands { IsContextOf context.now table.now frames.now.items }
+    requires well { in_scope context.now IsCardUnder (card_seen expr.now) }
+    ensures card { option_map value_seen result
+        ≡ card_value (scene_in context.now table.now frames.now.items) context.now.scope.now (card_seen expr.now) }
+    ensures there { IfSome result (λ card. IsCardOf context.now.about.now.shape (value_seen card)) }
+{
+    // what an about and a table keep
+    let _fits = context.about.sheet();
+    let _sound = table.shape();
+    match expr {
+        CardExpr::Top(cards) => {
+            let scene = scene_now(context, table, frames);
+            match bare(&scene, context.scope, cards) {
+                Some(cards) => cards.last(),
+                None => card_now(context, expr, table, frames),
+            }
+        }
+        _ => card_now(context, expr, table, frames),
+    }
 }
 
 /// Moves all cards of a collection, one after the other. Which cards they are is read before the first one moves.
