@@ -31,32 +31,40 @@ use rc_value::{
     Bind, Bindings, Card, Cards, Context, FewCards, asked_now, cards_now, few_cards_now, int_now,
 };
 
+/// The first instructions, so many of them, and those behind them.
+#[tactic(auto, using(crate::proofs::ListLemmas::first_seen, crate::proofs::ListLemmas::rest_seen, crate::proofs::ListLemmas::front_simple, crate::proofs::ListLemmas::past_simple))]
+#[inline(always)]
+fn split(code: &[Instruction], count: usize) -> (&[Instruction], &[Instruction])
+    ensures front { list_seen result.0.now ≡ take count (list_seen code.now) }
+    ensures past { list_seen result.1.now ≡ drop count (list_seen code.now) }
+    ensures front_simple { AreSimple (list_seen code.now) → AreSimple (list_seen result.0.now) }
+    ensures past_simple { AreSimple (list_seen code.now) → AreSimple (list_seen result.1.now) }
+    ensures front_shorter { length result.0.now ≤ length code.now }
+    ensures past_shorter { length result.1.now ≤ length code.now }
+{
+    code.split_at(count.min(code.len()))
+}
+
 /// The first instructions, so many of them.
-#[tactic(auto, using(crate::proofs::ListLemmas::front_seen, crate::proofs::ListLemmas::all_seen, crate::proofs::ListLemmas::front_simple))]
 #[inline(always)]
 pub fn front(code: &[Instruction], count: usize) -> &[Instruction]
     ensures code { list_seen result.now ≡ take count (list_seen code.now) }
     ensures simple { AreSimple (list_seen code.now) → AreSimple (list_seen result.now) }
     ensures shorter { length result.now ≤ length code.now }
 {
-    if count < code.len() {
-        return &code[..count];
-    }
-    code
+    let (front, _) = split(code, count);
+    front
 }
 
 /// The instructions behind so many.
-#[tactic(auto, using(crate::proofs::ListLemmas::past_rest, crate::proofs::ListLemmas::none_seen, crate::proofs::ListLemmas::past_simple))]
 #[inline(always)]
 pub fn past(code: &[Instruction], count: usize) -> &[Instruction]
     ensures code { list_seen result.now ≡ drop count (list_seen code.now) }
     ensures simple { AreSimple (list_seen code.now) → AreSimple (list_seen result.now) }
     ensures shorter { length result.now ≤ length code.now }
 {
-    if count < code.len() {
-        return &code[count..];
-    }
-    &[]
+    let (_, past) = split(code, count);
+    past
 }
 
 // The test and what is inside, where a block is one `if`.
@@ -150,28 +158,23 @@ fn do_first<'c, D: Dealer>(
             }
         }
         Instruction::If(test, inside) => {
-            match do_if(context, test, front(behind, *inside), board, frames, dealer) {
-                Ok(()) => Ok(past(behind, *inside)),
+            let (effects, left) = split(behind, *inside);
+            match do_if(context, test, effects, board, frames, dealer) {
+                Ok(()) => Ok(left),
                 Err(Memory) => Err(Memory),
             }
         }
         Instruction::Repeat(count, inside) => {
-            match repeat(
-                context,
-                count,
-                front(behind, *inside),
-                board,
-                frames,
-                dealer,
-            ) {
-                Ok(()) => Ok(past(behind, *inside)),
+            let (effects, left) = split(behind, *inside);
+            match repeat(context, count, effects, board, frames, dealer) {
+                Ok(()) => Ok(left),
                 Err(Memory) => Err(Memory),
             }
         }
         Instruction::Each(domain, bound, inside) => {
-            let effects = front(behind, *inside);
+            let (effects, left) = split(behind, *inside);
             match for_each(context, domain, *bound, effects, board, frames, dealer) {
-                Ok(()) => Ok(past(behind, *inside)),
+                Ok(()) => Ok(left),
                 Err(Memory) => Err(Memory),
             }
         }
