@@ -21,7 +21,7 @@ ghost use Rattle.rc_rules.specs.Dealer.{ShuffledBy};
 use crate::everyone::{change_all, change_for_each, gather_all, gather_for_each};
 use crate::scopes::one_more;
 use crate::simple::do_simple;
-use rc_ast::{CollExpr, Domain, IntExpr};
+use rc_ast::{CollExpr, Domain, Effect, IntExpr};
 use rc_base::limits::MOST_TIMES;
 use rc_code::{CompiledTest, Instruction};
 use rc_deck::Memory;
@@ -260,7 +260,7 @@ fn times_of(count: i64) -> u16
 
 #[tactic(auto, using(crate::proofs::ShuffleLemmas::not_shuffled))]
 #[cycle(blocks)]
-#[inline(never)]
+#[inline(always)]
 fn for_each<D: Dealer>(
     context: &Context,
     domain: &Domain,
@@ -285,18 +285,102 @@ fn for_each<D: Dealer>(
     ensures dealing { D.dealing dealer.new ≡ D.dealing dealer.old }
 {
     match domain {
-        Domain::Players => match change_for_each(context, inside, board.table(), &*frames) {
-            Some(each) => change_all(context.about, each, board),
-            None => match gather_for_each(context, inside) {
-                Some(each) => gather_all(context, each, board, &*frames),
-                None => for_players(context, inside, board, frames, dealer),
-            },
-        },
+        Domain::Players => {
+            if is_change(inside) {
+                return change_for_players(context, inside, board, frames, dealer);
+            }
+            do_for_players(context, inside, board, frames, dealer)
+        }
         Domain::Coll(cards) => for_cards(context, cards, inside, board, frames, dealer),
         Domain::Parts(_, _) => unreachable!(),
     }
 }
 
+// Whether a block does nothing but change a number.
+#[inline(always)]
+fn is_change(code: &[Instruction]) -> bool {
+    match code {
+        [Instruction::Simple(effect)] => match effect {
+            Effect::Set(..) => true,
+            Effect::Inc(..) => true,
+            Effect::Dec(..) => true,
+            _ => false,
+        },
+        _ => false,
+    }
+}
+
+// Does effects for each player. A number that is found without the variable is changed with none.
+#[tactic(auto, using(crate::proofs::ShuffleLemmas::not_shuffled))]
+#[cycle(blocks)]
+#[inline(never)]
+fn change_for_players<D: Dealer>(
+    context: &Context,
+    inside: &[Instruction],
+    board: &mut Board,
+    frames: &mut Frames,
+    dealer: &mut D,
+) -> Result<(), Memory>
+    requires stands { IsContextOf context.now board.old.laid frames.old.items }
+    requires room { length context.now.scope.now < 5 }
+    requires well { (member : PureBind CardValue)
+        → AreEffectsUnder context.now.about.now.sheet (context.now.scope.now ++ member ∷ [])
+        (effects_in (list_seen inside.now)) }
+    requires simple { AreSimple (list_seen inside.now) }
+    ensures does { OnOk result (fold
+        (λ mid member. does context.now.about.now (D.dealing dealer.old) (context.now.scope.now ++ member ∷ [])
+        (effects_in (list_seen inside.now)) mid)
+        (point_of board.old.laid frames.old.items (D.state dealer.old))
+        (map (λ n. player_bound n) (below context.now.about.now.sheet.players))
+        ≡ point_of board.new.laid frames.new.items (D.state dealer.new)) }
+    ensures stands { OnOk result (IsContextOf context.now board.new.laid frames.new.items) }
+    ensures keeps { Keeps board.old board.new }
+    ensures quiet { board.old.notes ≡ false → IsOk result }
+    ensures shuffled { ShuffledBy D.dealing D.state dealer.old dealer.new }
+    ensures dealing { D.dealing dealer.new ≡ D.dealing dealer.old }
+{
+    match change_for_each(context, inside, board.table(), &*frames) {
+        Some(each) => change_all(context.about, each, board),
+        None => do_for_players(context, inside, board, frames, dealer),
+    }
+}
+
+// The same. A location that is found without the variable is gathered with none.
+#[tactic(auto, using(crate::proofs::ShuffleLemmas::not_shuffled))]
+#[cycle(blocks)]
+#[inline(never)]
+fn do_for_players<D: Dealer>(
+    context: &Context,
+    inside: &[Instruction],
+    board: &mut Board,
+    frames: &mut Frames,
+    dealer: &mut D,
+) -> Result<(), Memory>
+    requires stands { IsContextOf context.now board.old.laid frames.old.items }
+    requires room { length context.now.scope.now < 5 }
+    requires well { (member : PureBind CardValue)
+        → AreEffectsUnder context.now.about.now.sheet (context.now.scope.now ++ member ∷ [])
+        (effects_in (list_seen inside.now)) }
+    requires simple { AreSimple (list_seen inside.now) }
+    ensures does { OnOk result (fold
+        (λ mid member. does context.now.about.now (D.dealing dealer.old) (context.now.scope.now ++ member ∷ [])
+        (effects_in (list_seen inside.now)) mid)
+        (point_of board.old.laid frames.old.items (D.state dealer.old))
+        (map (λ n. player_bound n) (below context.now.about.now.sheet.players))
+        ≡ point_of board.new.laid frames.new.items (D.state dealer.new)) }
+    ensures stands { OnOk result (IsContextOf context.now board.new.laid frames.new.items) }
+    ensures keeps { Keeps board.old board.new }
+    ensures quiet { board.old.notes ≡ false → IsOk result }
+    ensures shuffled { ShuffledBy D.dealing D.state dealer.old dealer.new }
+    ensures dealing { D.dealing dealer.new ≡ D.dealing dealer.old }
+{
+    match gather_for_each(context, inside) {
+        Some(each) => gather_all(context, each, board, &*frames),
+        None => for_players(context, inside, board, frames, dealer),
+    }
+}
+
+// The same, one player after the other.
 #[tactic(auto, using(crate::proofs::ShuffleLemmas::not_shuffled))]
 #[cycle(blocks)]
 #[inline(always)]

@@ -186,9 +186,58 @@ fn is_member(who: &Who, outside: usize) -> bool
     }
 }
 
-/// Changes a number at each player's turn.
-#[inline(never)]
+/// Changes a number at each player's turn. How is told apart before the first turn, and not at each.
+#[inline(always)]
 pub fn change_all(about: &About, each: EachChange, board: &mut Board) -> Result<(), Memory>
+    requires { IsInRange each.value }
+    ensures leads { OnOk result (board.new.laid ≡ relaid board.old.laid
+        (fold (change_for each) board.old.laid.table
+        (map (λ n. player_bound n) (below about.now.sheet.players)))) }
+    ensures keeps { Keeps board.old board.new }
+    ensures quiet { board.old.notes ≡ false → IsOk result }
+{
+    match each.how {
+        Change::Set => change_so(about, Change::Set, each.place, each.value, board),
+        Change::Increase => change_so(about, Change::Increase, each.place, each.value, board),
+        Change::Decrease => change_so(about, Change::Decrease, each.place, each.value, board),
+    }
+}
+
+// The same where it is known how. What it changes by is told apart here.
+#[inline(always)]
+fn change_so(
+    about: &About,
+    how: Change,
+    place: EachPlace,
+    value: EachValue,
+    board: &mut Board,
+) -> Result<(), Memory>
+    requires { IsInRange value }
+    ensures leads { OnOk result (board.new.laid ≡ relaid board.old.laid
+        (fold (change_for (record { how = how; place = place; value = value })) board.old.laid.table
+        (map (λ n. player_bound n) (below about.now.sheet.players)))) }
+    ensures keeps { Keeps board.old board.new }
+    ensures quiet { board.old.notes ≡ false → IsOk result }
+{
+    match value {
+        EachValue::Literal(literal) => {
+            let value = EachValue::Literal(literal);
+            change_by_turns(about, EachChange { how, place, value }, board)
+        }
+        EachValue::Number(by) => {
+            let value = EachValue::Number(by);
+            // the same turns, compiled for players whose own numbers these are
+            if place.own && by.own {
+                return change_by_turns(about, EachChange { how, place, value }, board);
+            }
+            change_by_turns(about, EachChange { how, place, value }, board)
+        }
+    }
+}
+
+// The same, one turn after the other.
+#[inline(always)]
+fn change_by_turns(about: &About, each: EachChange, board: &mut Board) -> Result<(), Memory>
     requires { IsInRange each.value }
     ensures leads { OnOk result (board.new.laid ≡ relaid board.old.laid
         (fold (change_for each) board.old.laid.table

@@ -3,13 +3,12 @@ use Rattle.std.specs.Prelude.{fold}
 use Rattle.std.proofs.lemmas.Grind.{common_steps}
 use Rattle.rc_base.specs.Numbers.{below}
 use Rattle.rc_deck.proofs.EachLemmas.{on_ok}
-use Rattle.rc_sheet_spec.specs.Sheet.{Sheet, for_each}
+use Rattle.rc_sheet_spec.specs.Sheet.{Sheet}
 use Rattle.rc_sheet_spec.specs.WellFormed.{AreEffects}
 use Rattle.rc_play_spec.specs.Value.{player_bound, loc_place}
 use Rattle.rc_play_spec.specs.About.{scene_at}
-use Rattle.rc_play_spec.specs.Effects.{with_table, if_some, does, does_one}
+use Rattle.rc_play_spec.specs.Effects.{with_table, if_some, does}
 use Rattle.rc_ast.specs.Names.{loc_seen}
-use Rattle.rc_ast.specs.Expressions.{domain_seen}
 use Rattle.rc_code.specs.Meaning.{effects_in, first_effects, passed_over}
 use Rattle.rc_code.specs.Seen.{instruction_seen, list_seen}
 use Rattle.rc_code.specs.Implements.{AreSimple}
@@ -36,7 +35,7 @@ do_block-do_first-requires g t c κs within =
     let long = ap length rest in
     let shorter = loop.invariant.shorter in
     let whole = c.decreases in
-    let less : 8 * length c.in-Some.behind.now + 7 < t = omega (arith, long, shorter, whole) in (
+    let less : 9 * length c.in-Some.behind.now + 8 < t = omega (arith, long, shorter, whole) in (
       less,
       (
         within,
@@ -160,23 +159,20 @@ repeat-loop-preserved g t c =
       shuffled_then _ _ _ _ _ loop.invariant.1 loop.invariant.4 c.in-Ok.ensures.shuffled,
     )
 
-pub for_each-returns-in-Some-clause-does : goal.for_each-returns-in-Some-clause-does
-for_each-returns-in-Some-clause-does g t c =
+pub change_for_players-returns-in-Some-clause-does : goal.change_for_players-returns-in-Some-clause-does
+change_for_players-returns-in-Some-clause-does g t c =
     let context = c.args.context.now in
-    let about = context.about.now in
-    let vars = context.scope.now in
     let dealing = g.D.Dealer.dealing c.args.dealer.now in
     let state = g.D.Dealer.state c.args.dealer.now in
     let frames = c.args.frames.now.items in
-    let now = point_of c.args.board.now.laid frames state in
     let effects = effects_in (list_seen c.args.inside.now) in
     on_ok c.change_all.result c.change_all.ensures.leads (λ leads.
-    ap (λ domain. does_one about dealing vars (for_each (domain_seen domain) c.args.bound effects) now) c.in-Players.is
-    ∙ all_turns about dealing vars (frames_seen frames) effects (change_for c.in-Some.each) c.in-Some.ensures.turns now refl
+    all_turns context.about.now dealing context.scope.now (frames_seen frames) effects (change_for c.in-Some.each) c.in-Some.ensures.turns
+    (point_of c.args.board.now.laid frames state) refl
     ∙ ap (λ (laid : Laid). point_of laid frames state) (sym leads))
 
-pub for_each-returns-in-Some-gather_for_each-clause-does : goal.for_each-returns-in-Some-gather_for_each-clause-does
-for_each-returns-in-Some-gather_for_each-clause-does g t c =
+pub do_for_players-returns-in-Some-clause-does : goal.do_for_players-returns-in-Some-clause-does
+do_for_players-returns-in-Some-clause-does g t c =
     let context = c.args.context.now in
     let about = context.about.now in
     let vars = context.scope.now in
@@ -186,12 +182,20 @@ for_each-returns-in-Some-gather_for_each-clause-does g t c =
     let laid = c.args.board.now.laid in
     let now = point_of laid frames state in
     let effects = effects_in (list_seen c.args.inside.now) in
-    let each = c.in-Some-gather_for_each.each in
-    let are = c.in-Some-gather_for_each.ensures in
+    let each = c.in-Some.each in
+    let are = c.in-Some.ensures in
     let place = loc_place (scene_at about laid.table (frames_seen frames)).known vars (loc_seen each.to.now) in
     on_ok c.gather_all.result c.gather_all.ensures.leads (λ leads.
-    ap (λ domain. does_one about dealing vars (for_each (domain_seen domain) c.args.bound effects) now) c.in-Players.is
-    ∙ gather_each about dealing vars (loc_seen each.from.now) (loc_seen each.to.now) are.member are.apart effects (below about.sheet.players) now are.effect
+    gather_each about dealing vars (loc_seen each.from.now) (loc_seen each.to.now) are.member are.apart effects (below about.sheet.players) now are.effect
     ∙ ap (λ shape. with_table now (if_some (λ to table. fold (gather_for about.sheet shape each.from.now.name to) table (map (λ n. player_bound n) (below about.sheet.players)))
     place laid.table)) (sym c.requires.stands.0)
     ∙ ap (λ (laid : Laid). point_of laid frames state) (sym leads))
+
+pub change_for_players-change_for_each-requires-clause-well : goal.change_for_players-change_for_each-requires-clause-well
+change_for_players-change_for_each-requires-clause-well g t c = let are = c.requires.well (player_bound 0) in (are.0, are.3)
+
+pub do_for_players-gather_all-requires-clause-cards : goal.do_for_players-gather_all-requires-clause-cards
+do_for_players-gather_all-requires-clause-cards g t c =
+    let are = c.requires.well (player_bound 0) in
+    let one = subst (AreEffects c.args.context.now.about.now.sheet are.0) c.in-Some.ensures.effect are.3 in
+    one.0.1.1

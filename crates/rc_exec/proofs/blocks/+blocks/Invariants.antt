@@ -17,37 +17,43 @@ use Rattle.rc_exec.proofs.blocks.+blocks.Given as goal
 
 -- what a block holds is shorter than the block
 abbrev pub decreases-do_block : goal.decreases-do_block
-decreases-do_block g l = 8 * length l.code.now
+decreases-do_block g l = 9 * length l.code.now
 
 abbrev pub decreases-do_first : goal.decreases-do_first
-decreases-do_first g l = 8 * length l.behind.now + 7
+decreases-do_first g l = 9 * length l.behind.now + 8
 
 abbrev pub decreases-do_if : goal.decreases-do_if
-decreases-do_if g l = 8 * length l.inside.now + 5
+decreases-do_if g l = 9 * length l.inside.now + 5
 
 abbrev pub decreases-repeat : goal.decreases-repeat
-decreases-repeat g l = 8 * length l.inside.now + 5
+decreases-repeat g l = 9 * length l.inside.now + 5
 
 abbrev pub decreases-for_each : goal.decreases-for_each
-decreases-for_each g l = 8 * length l.inside.now + 6
+decreases-for_each g l = 9 * length l.inside.now + 7
+
+abbrev pub decreases-change_for_players : goal.decreases-change_for_players
+decreases-change_for_players g l = 9 * length l.inside.now + 6
+
+abbrev pub decreases-do_for_players : goal.decreases-do_for_players
+decreases-do_for_players g l = 9 * length l.inside.now + 5
 
 abbrev pub decreases-for_players : goal.decreases-for_players
-decreases-for_players g l = 8 * length l.inside.now + 4
+decreases-for_players g l = 9 * length l.inside.now + 4
 
 abbrev pub decreases-for_cards : goal.decreases-for_cards
-decreases-for_cards g l = 8 * length l.inside.now + 5
+decreases-for_cards g l = 9 * length l.inside.now + 5
 
 abbrev pub decreases-for_these : goal.decreases-for_these
-decreases-for_these g l = 8 * length l.inside.now + 4
+decreases-for_these g l = 9 * length l.inside.now + 4
 
 abbrev pub decreases-do_for : goal.decreases-do_for
-decreases-do_for g l = 8 * length l.inside.now + 3
+decreases-do_for g l = 9 * length l.inside.now + 3
 
 abbrev pub decreases-do_inside : goal.decreases-do_inside
-decreases-do_inside g l = 8 * length l.code.now + 2
+decreases-do_inside g l = 9 * length l.code.now + 2
 
 abbrev pub decreases-do_few : goal.decreases-do_few
-decreases-do_few g l = 8 * length l.code.now + 1
+decreases-do_few g l = 9 * length l.code.now + 1
 
 -- what is left to do, from here, leads to what all leads to
 abbrev pub invariant-do_block-loop-first : goal.invariant-do_block-loop-first

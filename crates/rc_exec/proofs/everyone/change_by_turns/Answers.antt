@@ -4,7 +4,7 @@ use Rattle.rc_table.specs.Laid.{Laid, relaid}
 use Rattle.rc_exec.specs.Everyone.{change_for}
 use Rattle.rc_value.proofs.EffectSteps.{one_player, no_player}
 use Rattle.rc_undo.proofs.KeepsLemmas.{keeps_then}
-use Rattle.rc_exec.proofs.everyone.change_all.Goals as goal
+use Rattle.rc_exec.proofs.everyone.change_by_turns.Goals as goal
 
 pub returns-in-Err-clause-keeps : goal.returns-in-Err-clause-keeps
 returns-in-Err-clause-keeps c = keeps_then _ _ _ c.loop-player.invariant.0 c.in-Err.ensures.keeps

@@ -4,7 +4,7 @@ use Rattle.rc_base.specs.Numbers.{below}
 use Rattle.rc_play_spec.specs.Value.{player_bound}
 use Rattle.rc_exec.specs.Everyone.{change_for}
 use Rattle.rc_undo.specs.Undo.{Keeps}
-use Rattle.rc_exec.proofs.everyone.change_all.Given as goal
+use Rattle.rc_exec.proofs.everyone.change_by_turns.Given as goal
 
 -- what is left to change, from here, leads to what all lead to
 abbrev pub invariant-loop-player : goal.invariant-loop-player
