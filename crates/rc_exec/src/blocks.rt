@@ -345,7 +345,7 @@ fn change_for_players<D: Dealer>(
     }
 }
 
-// The same. A location that is found without the variable is gathered with none.
+// The same, one player after the other. A location that is found without the variable is gathered with none.
 #[tactic(auto, using(crate::proofs::ShuffleLemmas::not_shuffled))]
 #[cycle(blocks)]
 #[inline(never)]
@@ -375,40 +375,9 @@ fn do_for_players<D: Dealer>(
     ensures dealing { D.dealing dealer.new ≡ D.dealing dealer.old }
 {
     match gather_for_each(context, inside) {
-        Some(each) => gather_all(context, each, board, &*frames),
-        None => for_players(context, inside, board, frames, dealer),
+        Some(each) => return gather_all(context, each, board, &*frames),
+        None => {}
     }
-}
-
-// The same, one player after the other.
-#[tactic(auto, using(crate::proofs::ShuffleLemmas::not_shuffled))]
-#[cycle(blocks)]
-#[inline(always)]
-fn for_players<D: Dealer>(
-    context: &Context,
-    inside: &[Instruction],
-    board: &mut Board,
-    frames: &mut Frames,
-    dealer: &mut D,
-) -> Result<(), Memory>
-    requires stands { IsContextOf context.now board.old.laid frames.old.items }
-    requires room { length context.now.scope.now < 5 }
-    requires well { (member : PureBind CardValue)
-        → AreEffectsUnder context.now.about.now.sheet (context.now.scope.now ++ member ∷ [])
-        (effects_in (list_seen inside.now)) }
-    requires simple { AreSimple (list_seen inside.now) }
-    ensures does { OnOk result (fold
-        (λ mid member. does context.now.about.now (D.dealing dealer.old) (context.now.scope.now ++ member ∷ [])
-        (effects_in (list_seen inside.now)) mid)
-        (point_of board.old.laid frames.old.items (D.state dealer.old))
-        (map (λ n. player_bound n) (below context.now.about.now.sheet.players))
-        ≡ point_of board.new.laid frames.new.items (D.state dealer.new)) }
-    ensures stands { OnOk result (IsContextOf context.now board.new.laid frames.new.items) }
-    ensures keeps { Keeps board.old board.new }
-    ensures quiet { board.old.notes ≡ false → IsOk result }
-    ensures shuffled { ShuffledBy D.dealing D.state dealer.old dealer.new }
-    ensures dealing { D.dealing dealer.new ≡ D.dealing dealer.old }
-{
     let mut scope = one_more(context.scope, Bind::Player(0));
     for player in 0..context.about.sheet().players {
         let bind = Bind::Player(player);

@@ -104,14 +104,14 @@ for_these-loop-card-preserved g t c = (
   c.do_for.ensures.scope,
 )
 
-pub for_players-returns-in-Err-clause-keeps : goal.for_players-returns-in-Err-clause-keeps
-for_players-returns-in-Err-clause-keeps g t c = keeps_then _ _ _ c.loop-player.invariant.2 c.in-Err.ensures.keeps
+pub do_for_players-returns-in-Err-clause-keeps : goal.do_for_players-returns-in-Err-clause-keeps
+do_for_players-returns-in-Err-clause-keeps g t c = keeps_then _ _ _ c.loop-player.invariant.2 c.in-Err.ensures.keeps
 
-pub for_players-returns-in-Err-clause-shuffled : goal.for_players-returns-in-Err-clause-shuffled
-for_players-returns-in-Err-clause-shuffled g t c = shuffled_then _ _ _ _ _ c.loop-player.invariant.1 c.loop-player.invariant.4 c.in-Err.ensures.shuffled
+pub do_for_players-returns-in-Err-clause-shuffled : goal.do_for_players-returns-in-Err-clause-shuffled
+do_for_players-returns-in-Err-clause-shuffled g t c = shuffled_then _ _ _ _ _ c.loop-player.invariant.1 c.loop-player.invariant.4 c.in-Err.ensures.shuffled
 
-pub for_players-loop-player-preserved : goal.for_players-loop-player-preserved
-for_players-loop-player-preserved g t c =
+pub do_for_players-loop-player-preserved : goal.do_for_players-loop-player-preserved
+do_for_players-loop-player-preserved g t c =
     let context = c.args.context.now in
     let loop = c.loop-player in
     let effects = effects_in (list_seen c.args.inside.now) in
@@ -127,8 +127,8 @@ for_players-loop-player-preserved g t c =
       c.do_for.ensures.scope,
     )
 
-pub for_players-returns-clause-does : goal.for_players-returns-clause-does
-for_players-returns-clause-does g t c =
+pub do_for_players-returns-clause-does : goal.do_for_players-returns-clause-does
+do_for_players-returns-clause-does g t c =
     let context = c.args.context.now in
     let loop = c.loop-player in
     let players = ap (λ (s : Sheet). s.players) c.sheet.ensures.same in

@@ -37,9 +37,6 @@ decreases-change_for_players g l = 9 * length l.inside.now + 6
 abbrev pub decreases-do_for_players : goal.decreases-do_for_players
 decreases-do_for_players g l = 9 * length l.inside.now + 5
 
-abbrev pub decreases-for_players : goal.decreases-for_players
-decreases-for_players g l = 9 * length l.inside.now + 4
-
 abbrev pub decreases-for_cards : goal.decreases-for_cards
 decreases-for_cards g l = 9 * length l.inside.now + 5
 
@@ -84,8 +81,8 @@ invariant-repeat-loop g l =
     (point_of l.fn.board.laid l.fn.frames.items (g.D.Dealer.state l.fn.dealer)))
     × HasShuffled (g.D.Dealer.dealing l.fn.dealer) (g.D.Dealer.state l.fn.dealer) (g.D.Dealer.state l.dealer)
 
-abbrev pub invariant-for_players-loop-player : goal.invariant-for_players-loop-player
-invariant-for_players-loop-player g l =
+abbrev pub invariant-do_for_players-loop-player : goal.invariant-do_for_players-loop-player
+invariant-do_for_players-loop-player g l =
     IsContextOf l.context l.board.laid l.frames.items × (g.D.Dealer.dealing l.dealer ≡ g.D.Dealer.dealing l.fn.dealer) × Keeps l.fn.board l.board
     × (fold
     (λ mid member. does l.context.about.now (g.D.Dealer.dealing l.fn.dealer) (l.context.scope.now ++ member ∷ []) (effects_in (list_seen l.inside)) mid)
