@@ -25,7 +25,7 @@ use rc_table::Table;
 use rc_undo::Board;
 use rc_value::{
     Card, Cards, Context, FewCards, bare, card_now, cards_now, few_cards_now, held_among, loc_now,
-    scene_now, sole_card_now,
+    scene_now,
 };
 
 /// So many cards at least go in one go. Of fewer, each goes by itself, which is less work.
@@ -135,7 +135,11 @@ pub fn move_all(
     };
     match location_to_pile(cards, end) {
         Some(from) => pile_up(context, from, at, board, frames),
-        None => put_cards(context, cards, end, at, board, frames),
+        None => match cards {
+            CollExpr::Loc(_) => put_some(context, cards, end, at, board, frames),
+            CollExpr::Var(_) => put_some(context, cards, end, at, board, frames),
+            _ => put_many(context, cards, end, at, board, frames),
+        },
     }
 }
 
@@ -178,33 +182,7 @@ fn pile_up(
     }
 }
 
-// Puts all cards of a collection there. One alone takes no list.
-#[inline(always)]
-fn put_cards(
-    context: &Context,
-    cards: &CollExpr,
-    end: End,
-    at: u16,
-    board: &mut Board,
-    frames: &Frames,
-) -> Result<(), Memory>
-    requires stands { IsContextOf context.now board.old.laid frames.now.items }
-    requires well { in_scope context.now IsCollUnder (coll_seen cards.now) }
-    requires holds { HoldsCards board.old.laid.shape at }
-    ensures leads { OnOk result (board.new.laid
-        ≡ relaid board.old.laid (fold (move_card board.old.laid.shape (end_seen end) at) board.old.laid.table
-        (coll_value (scene_in context.now board.old.laid frames.now.items) context.now.scope.now
-        (coll_seen cards.now)))) }
-    ensures keeps { Keeps board.old board.new }
-    ensures quiet { board.old.notes ≡ false → IsOk result }
-{
-    match sole_card_now(context, cards, board.table(), frames) {
-        Some(card) => put(board, card, end, at),
-        None => put_some(context, cards, end, at, board, frames),
-    }
-}
-
-// The same. Few cards are kept in a small list.
+// Puts all cards of a location or of a variable there. Few cards are kept in a small list.
 #[inline(never)]
 fn put_some(
     context: &Context,
@@ -231,7 +209,7 @@ fn put_some(
     put_many(context, cards, end, at, board, frames)
 }
 
-// The same, however many they are.
+// The same of any collection, however many they are.
 #[inline(never)]
 fn put_many(
     context: &Context,
