@@ -1,18 +1,20 @@
 -- Tests that are the same in all scopes of some length.
-use Rattle.std.proofs.Common.{◌≡◌, ℕ, ℤ, pos, Bool, true, false, not, List, [], ◌∷◌, ◌++◌, length, map, Option, Some, None, refl, sym, ap, ap₂, ◌∙◌}
+use Rattle.std.proofs.Common.{◌≡◌, ℕ, ℤ, pos, Bool, cond, true, false, not, List, [], ◌∷◌, ◌++◌, length, map, Option, Some, None, refl, sym, ap, ap₂, ◌∙◌}
 use Rattle.std.specs.Prelude.{IfSome}
-use Rattle.std.specs.List.{list_any, list_all}
 use Rattle.rc_sheet_spec.specs.Sheet.{Loc, Num, NumName, CollExpr, cards_in, IntExpr, literal, number, size_of, Test, Domain, each_card, all_of, any_of}
 use Rattle.rc_sheet_spec.specs.Naming.{class_of}
 use Rattle.rc_play_spec.specs.Owners.{place_among}
 use Rattle.rc_play_spec.specs.Scene.{CardValue}
-use Rattle.rc_play_spec.specs.Value.{Scene as PureScene, Bind as PureBind, attr_of, both, card_bound, nat_same, number_there, coll_value, int_value, test_value}
+use Rattle.rc_play_spec.specs.Value.{Scene as PureScene, Bind as PureBind, attr_of, both, card_bound, members, nat_same, number_there, coll_value, int_value, test_value}
+use Rattle.rc_code.specs.declared.atoms.Comparator.{Comparator}
 use Rattle.rc_menu.specs.declared.known.AtHand.{AtHand}
 use Rattle.rc_menu.specs.declared.known.AtHand.TheVariants.{OfCard, Holds, Unclear}
 use Rattle.rc_value.specs.declared.wanted.WantedValue.{WantedValue}
-use Rattle.rc_menu.specs.Known.{hand_turned, turned, IsAllKnownAt, IsAnyKnownAt, IsAtHand, IsFixedNumber, IsKnownAt, IsKnownNumber, IsKnownPair, IsTurned}
+use Rattle.rc_menu.specs.Known.{hand_turned, turned, IsAtHand, IsFixedNumber, IsKnownAt, IsKnownOver, IsKnownPair, IsTurned}
+use Rattle.rc_value.specs.Comparing.{compare}
+use Rattle.rc_value.specs.Over.{over}
 use Rattle.rc_value.specs.Wanted.{compares, wanted_value, IsFixedCollection, IsFixedOwner, IsWantedAt}
-use Rattle.rc_value.proofs.WantedLemmas.{fixed_cards, all_wanted, any_wanted}
+use Rattle.rc_value.proofs.WantedLemmas.{fixed_cards, over_told}
 
 -- numbers that no variable owns
 pub fixed_literal : (value : ℤ) (e : IntExpr) → e ≡ literal value → IsFixedNumber e
@@ -39,22 +41,18 @@ turned_meets true false value has = not_not (both nat_same has value)
 turned_meets false equal value has = refl
 
 module _ (s : PureScene CardValue) where
-  -- such a number in some scope, and so in all
-  pub known_number : (vars : List (PureBind CardValue)) (e : IntExpr) (n : Option ℤ) → IsFixedNumber e →
-      IfSome n (λ n. n ≡ int_value s vars e) → IfSome n (IsKnownNumber s e)
-  known_number vars e None fixed is = is
-  known_number vars e (Some n) fixed is = λ vars'. fixed s vars' vars ∙ sym is
-
-  pub known_pair : (compare : ℤ → ℤ → Bool) (a b : IntExpr) (one other : ℤ) (is : Bool) → IsKnownNumber s a one → IsKnownNumber s b other →
-      is ≡ compare one other → IsKnownPair s compare a b is
-  known_pair compare a b one other is known known' so = λ vars. ap₂ compare (known vars) (known' vars) ∙ sym so
+  -- such numbers compare in all scopes as they do in one
+  pub known_pair : (vars : List (PureBind CardValue)) (how : Comparator) (a b : IntExpr) (is : Option Bool) → IsFixedNumber a → IsFixedNumber b →
+      IfSome is (λ is. is ≡ compare how (int_value s vars a) (int_value s vars b)) → IfSome is (IsKnownPair s how a b)
+  known_pair vars how a b None fixed fixed' h = h
+  known_pair vars how a b (Some is) fixed fixed' h = λ vars'. ap₂ (compare how) (fixed s vars' vars) (fixed' s vars' vars) ∙ sym h
 
   -- tests of them
-  pub pair_at : (count : ℕ) (compare : ℤ → ℤ → Bool) (a b : IntExpr) (t : Test) (is : Option Bool) →
-      ((vars : List (PureBind CardValue)) → test_value s vars t ≡ compare (int_value s vars a) (int_value s vars b)) →
-      IfSome is (IsKnownPair s compare a b) → IfSome is (IsKnownAt s count t)
-  pair_at count compare a b t None same h = h
-  pair_at count compare a b t (Some is) same h = λ vars few. same vars ∙ h vars
+  pub pair_at : (count : ℕ) (how : Comparator) (a b : IntExpr) (t : Test) (is : Option Bool) →
+      ((vars : List (PureBind CardValue)) → test_value s vars t ≡ compare how (int_value s vars a) (int_value s vars b)) →
+      IfSome is (IsKnownPair s how a b) → IfSome is (IsKnownAt s count t)
+  pair_at count how a b t None same h = h
+  pair_at count how a b t (Some is) same h = λ vars few. same vars ∙ h vars
 
   -- what is at hand of an opposite
   pub turned_hand : (vars : List (PureBind CardValue)) (opposite : Bool) (t t' : Test) (hand : AtHand) → IsTurned opposite t t' →
@@ -65,26 +63,23 @@ module _ (s : PureScene CardValue) where
   turned_hand vars opposite t t' Unclear how h = h
 
   -- tests of the cards of a location
-  pub all_at : (count bound : ℕ) (domain : Domain) (inner t : Test) (is : Option Bool) → t ≡ all_of domain bound inner →
-      IfSome is (IsAllKnownAt s count domain inner) → IfSome is (IsKnownAt s count t)
-  all_at count bound domain inner t None e h = h
-  all_at count bound domain inner t (Some is) e h = λ vars few. ap (test_value s vars) e ∙ h bound vars few
+  pub over_at : (count bound : ℕ) (any : Bool) (domain : Domain) (inner t : Test) (is : Option Bool) →
+      t ≡ cond any (any_of domain bound inner) (all_of domain bound inner) →
+      IfSome is (IsKnownOver s count any domain inner) → IfSome is (IsKnownAt s count t)
+  over_at count bound any domain inner t None e h = h
+  over_at count bound any domain inner t (Some is) e h = λ vars few. ap (test_value s vars) e ∙ h bound vars few
 
-  pub any_at : (count bound : ℕ) (domain : Domain) (inner t : Test) (is : Option Bool) → t ≡ any_of domain bound inner →
-      IfSome is (IsAnyKnownAt s count domain inner) → IfSome is (IsKnownAt s count t)
-  any_at count bound domain inner t None e h = h
-  any_at count bound domain inner t (Some is) e h = λ vars few. ap (test_value s vars) e ∙ h bound vars few
+  over_domain : (any : Bool) (bound : ℕ) (domain : Domain) (inner : Test) (vars : List (PureBind CardValue)) →
+      test_value s vars (cond any (any_of domain bound inner) (all_of domain bound inner))
+      ≡ over any (λ m. test_value s (vars ++ m ∷ []) inner) (members s vars domain)
+  over_domain true bound domain inner vars = refl
+  over_domain false bound domain inner vars = refl
 
-  module _ (scope : List (PureBind CardValue)) (count : ℕ) (domain : Domain) (inner : Test) (loc : Loc) (w : WantedValue) (cards : List CardValue) (is : Bool)
-      (over : domain ≡ each_card (cards_in loc)) (fixed : IsFixedOwner loc.who) (wanted : IsWantedAt s count inner w) (there : cards ≡ coll_value s scope (cards_in loc)) where
-    pub all_known_there : is ≡ list_all (wanted_value s w) cards → IsAllKnownAt s count domain inner is
-    all_known_there e = λ bound vars few.
-        ap (λ d. test_value s vars (all_of d bound inner)) over
-        ∙ ap (λ cs. list_all (λ m. test_value s (vars ++ m ∷ []) inner) (map (λ c. card_bound c) cs)) (fixed_cards loc (cards_in loc) refl fixed s vars scope ∙ sym there)
-        ∙ sym (all_wanted s vars inner w cards (wanted vars few)) ∙ sym e
-
-    pub any_known_there : is ≡ list_any (wanted_value s w) cards → IsAnyKnownAt s count domain inner is
-    any_known_there e = λ bound vars few.
-        ap (λ d. test_value s vars (any_of d bound inner)) over
-        ∙ ap (λ cs. list_any (λ m. test_value s (vars ++ m ∷ []) inner) (map (λ c. card_bound c) cs)) (fixed_cards loc (cards_in loc) refl fixed s vars scope ∙ sym there)
-        ∙ sym (any_wanted s vars inner w cards (wanted vars few)) ∙ sym e
+  pub known_there : (scope : List (PureBind CardValue)) (count : ℕ) (any : Bool) (domain : Domain) (inner : Test) (loc : Loc) (w : WantedValue) (is : Bool) →
+      domain ≡ each_card (cards_in loc) → IsFixedOwner loc.who → IsWantedAt s count inner w →
+      is ≡ over any (wanted_value s w) (coll_value s scope (cards_in loc)) → IsKnownOver s count any domain inner is
+  known_there scope count any domain inner loc w is cards fixed wanted e = λ bound vars few.
+      over_domain any bound domain inner vars
+      ∙ ap (λ d. over any (λ m. test_value s (vars ++ m ∷ []) inner) (members s vars d)) cards
+      ∙ ap (λ cs. over any (λ m. test_value s (vars ++ m ∷ []) inner) (map (λ c. card_bound c) cs)) (fixed_cards loc (cards_in loc) refl fixed s vars scope)
+      ∙ sym (over_told s vars any inner (wanted_value s w) (coll_value s scope (cards_in loc)) (wanted vars few)) ∙ sym e

@@ -1,34 +1,30 @@
 -- What is the same whatever variables stand for, as far as it is known.
-use Rattle.std.specs.Prelude.{◌≡◌, ℕ, ◌+◌, ℤ, Bool, not, if◌then◌else◌, List, length}
+use Rattle.std.specs.Prelude.{◌≡◌, ℕ, ◌+◌, Bool, not, if◌then◌else◌, List, length}
 use Rattle.rc_sheet_spec.specs.Sheet.{IntExpr, Test, Domain, all_of, any_of}
 use Rattle.rc_play_spec.specs.Value.{Scene as PureScene, Bind as PureBind, int_value, test_value}
 use Rattle.rc_play_spec.specs.Scene.{CardValue}
 use Rattle.rc_menu.specs.declared.known.AtHand.{AtHand}
 use Rattle.rc_menu.specs.declared.known.AtHand.TheVariants.{OfCard, Holds, Unclear}
+use Rattle.rc_code.specs.declared.atoms.Comparator.{Comparator}
+use Rattle.rc_value.specs.Comparing.{compare}
 use Rattle.rc_value.specs.Wanted.{IsWanted}
 
 -- a number that no variable owns
 abbrev pub IsFixedNumber : IntExpr → Type 0
 IsFixedNumber e = (s : PureScene CardValue) (vars vars' : List (PureBind CardValue)) → int_value s vars e ≡ int_value s vars' e
 
--- how two numbers compare
-abbrev pub IsKnownPair : PureScene CardValue → (ℤ → ℤ → Bool) → IntExpr → IntExpr → Bool → Type 0
-IsKnownPair s compare a b is = (vars : List (PureBind CardValue)) → compare (int_value s vars a) (int_value s vars b) ≡ is
+-- whether two numbers compare so in all scopes
+abbrev pub IsKnownPair : PureScene CardValue → Comparator → IntExpr → IntExpr → Bool → Type 0
+IsKnownPair s how a b is = (vars : List (PureBind CardValue)) → compare how (int_value s vars a) (int_value s vars b) ≡ is
 
 -- whether a test holds in all scopes of so many variables
 abbrev pub IsKnownAt : PureScene CardValue → ℕ → Test → Bool → Type 0
 IsKnownAt s count t is = (vars : List (PureBind CardValue)) → length vars ≡ count → test_value s vars t ≡ is
 
 -- whether one of a domain, or each, passes a test, whatever the variable's word
-abbrev pub IsAllKnownAt : PureScene CardValue → ℕ → Domain → Test → Bool → Type 0
-IsAllKnownAt s count domain t is = (bound : ℕ) → IsKnownAt s count (all_of domain bound t) is
-
-abbrev pub IsAnyKnownAt : PureScene CardValue → ℕ → Domain → Test → Bool → Type 0
-IsAnyKnownAt s count domain t is = (bound : ℕ) → IsKnownAt s count (any_of domain bound t) is
-
--- what a number is in all scopes
-abbrev pub IsKnownNumber : PureScene CardValue → IntExpr → ℤ → Type 0
-IsKnownNumber s e n = (vars : List (PureBind CardValue)) → int_value s vars e ≡ n
+abbrev pub IsKnownOver : PureScene CardValue → ℕ → Bool → Domain → Test → Bool → Type 0
+IsKnownOver s count any domain t is =
+    (bound : ℕ) → IsKnownAt s count (if any then any_of domain bound t else all_of domain bound t) is
 
 -- the opposite, or the same
 abbrev pub turned : Bool → Bool → Bool

@@ -15,7 +15,9 @@ use crate::known::{AtHand, at_hand};
 use arrayvec::ArrayVec;
 use rc_ast::Test;
 use rc_flow::test_reads;
-use rc_value::{Bind, Bindings, Card, Scene, WantedValue, is_so, test_of, value_in, wanted_of};
+use rc_value::{
+    Bind, Bindings, Card, Scene, Sought, WantedValue, is_so, sought_of, test_of, value_in,
+};
 
 /// What is asked of each card that the innermost variable stands for. Most guards ask for values, which stand apart
 /// from other tests: for a value, or as a value is to be or not to be, in the row of all cards' values for an
@@ -94,9 +96,14 @@ fn ask_of<'t>(scene: &'t Scene, scope: &Bindings, test: &'t Test) -> CardAsk<'t>
         ≡ ask_value (scene_seen scene.now) scope.now c result }
     ensures fits { length scope.now + ask_depth result ≤ 5 }
 {
-    match wanted_of(scene, scope, &scope.with(Bind::Player(0)), test) {
-        Some(wanted) => ask_by(scene, scope, wanted, test),
-        None => CardAsk::Whole(test),
+    match test {
+        Test::EqAttr(_, _, _, _) | Test::Ne(_) | Test::Not(_) => {
+            match sought_of(scene, scope, test) {
+                Some(Sought::Value(wanted)) => ask_by(scene, scope, wanted, test),
+                _ => CardAsk::Whole(test),
+            }
+        }
+        _ => CardAsk::Whole(test),
     }
 }
 

@@ -1,20 +1,20 @@
 //! What is at hand of the tests of a guard. Some hold or don't whatever variables stand for: comparisons of numbers
 //! that no variable owns, and whether the cards of such a location are as they are wanted.
-ghost use Rattle.std.specs.Prelude.{◌≡◌, ◌<◌, true, IfSome, int_lt, int_le, length};
-ghost use Rattle.std.specs.Ordering.{int_eq};
-ghost use Rattle.std.specs.List.{list_any, list_all};
+ghost use Rattle.std.specs.Prelude.{◌≡◌, ◌<◌, true, IfSome, length};
 ghost use Rattle.rc_sheet_spec.specs.Sheet.{cards_in, each_card};
 ghost use Rattle.rc_play_spec.specs.Value.{coll_value};
 ghost use Rattle.rc_ast.specs.Names.{loc_seen};
 ghost use Rattle.rc_ast.specs.Expressions.{coll_seen, int_seen, test_seen, domain_seen};
-ghost use Rattle.rc_menu.specs.Known.{hand_turned, IsAtHand, IsAllKnownAt, IsAnyKnownAt, IsKnownAt, IsFixedNumber, IsKnownNumber, IsKnownPair, IsTurned};
+ghost use Rattle.rc_menu.specs.Known.{hand_turned, IsAtHand, IsKnownAt, IsKnownOver, IsFixedNumber, IsKnownPair, IsTurned};
+ghost use Rattle.rc_value.specs.Over.{over};
 ghost use Rattle.rc_value.specs.Scene.{scene_seen};
 ghost use Rattle.rc_value.specs.Wanted.{wanted_value, IsFixedOwner};
 
 use rc_ast::{CollExpr, Domain, IntExpr, Loc, Test};
+use rc_code::Comparator;
 use rc_value::{
-    Bindings, Scene, WantedValue, all_met_in, all_one_by_one, cards_of, equal_at, ids_of,
-    is_fixed_collection, is_fixed_owner, number_at_hand, some_met_in, some_one_by_one, wanted_at,
+    Bindings, Scene, Sought, WantedValue, are_as_sought, are_met_in, cards_of, compared_at_hand,
+    equal_at, ids_of, is_fixed_collection, is_fixed_owner, wanted_at,
 };
 
 /// What is at hand of a test of the innermost variable's card: which value the card is to have, or whether the test
@@ -32,34 +32,19 @@ pub(crate) fn at_hand(scene: &Scene, scope: &Bindings, test: &Test) -> AtHand
     requires { length scope.now < 5 }
     ensures { IsAtHand (scene_seen scene.now) scope.now (test_seen test.now) result }
 {
-    let plain = plain_of(test);
-    turned_if(plain.opposite, plain_at_hand(scene, scope, plain.test))
+    let (plain, opposite) = plain_of(test);
+    turned_if(opposite, plain_at_hand(scene, scope, plain))
 }
 
-// A test, or the test of which it is the opposite.
-#[derive(Clone, Copy)]
-struct PlainTest<'t> {
-    test: &'t Test,
-    opposite: bool,
-}
-
+// A test, or the test of which it is the opposite, and whether it is that.
 #[inline(always)]
-fn plain_of<'t>(test: &'t Test) -> PlainTest<'t>
-    ensures { IsTurned result.opposite (test_seen result.test.now) (test_seen test.now) }
+fn plain_of<'t>(test: &'t Test) -> (&'t Test, bool)
+    ensures { IsTurned result.1 (test_seen result.0.now) (test_seen test.now) }
 {
     match test {
-        Test::Ne(inner) => PlainTest {
-            test: inner,
-            opposite: true,
-        },
-        Test::Not(inner) => PlainTest {
-            test: inner,
-            opposite: true,
-        },
-        _ => PlainTest {
-            test,
-            opposite: false,
-        },
+        Test::Ne(inner) => (inner, true),
+        Test::Not(inner) => (inner, true),
+        _ => (test, false),
     }
 }
 
@@ -119,13 +104,13 @@ fn plain_at(scene: &Scene, scope: &Bindings, count: usize, test: &Test) -> Optio
     ensures { IfSome result (IsKnownAt (scene_seen scene.now) count (test_seen test.now)) }
 {
     match test {
-        Test::EqInt(a, b) => equal_known(scene, scope, a, b),
-        Test::Less(a, b) => less_known(scene, scope, a, b),
-        Test::LessEq(a, b) => at_most_known(scene, scope, a, b),
-        Test::More(a, b) => less_known(scene, scope, b, a),
-        Test::MoreEq(a, b) => at_most_known(scene, scope, b, a),
-        Test::All(domain, _, inner) => all_known(scene, scope, count, domain, inner),
-        Test::Any(domain, _, inner) => any_known(scene, scope, count, domain, inner),
+        Test::EqInt(a, b) => compared_known(scene, scope, a, Comparator::Equal, b),
+        Test::Less(a, b) => compared_known(scene, scope, a, Comparator::Less, b),
+        Test::LessEq(a, b) => compared_known(scene, scope, a, Comparator::AtMost, b),
+        Test::More(a, b) => compared_known(scene, scope, a, Comparator::More, b),
+        Test::MoreEq(a, b) => compared_known(scene, scope, a, Comparator::AtLeast, b),
+        Test::All(domain, _, inner) => known_over(scene, scope, count, domain, inner, false),
+        Test::Any(domain, _, inner) => known_over(scene, scope, count, domain, inner, true),
         _ => None,
     }
 }
@@ -143,75 +128,21 @@ fn is_fixed_number(expr: &IntExpr) -> bool
     }
 }
 
-// The number, if no variable owns it and it is at hand.
+// Whether two numbers compare so, if no variable owns them and they are at hand.
 #[inline(always)]
-fn fixed_number(scene: &Scene, scope: &Bindings, expr: &IntExpr) -> Option<i64>
-    ensures { IfSome result (IsKnownNumber (scene_seen scene.now) (int_seen expr.now)) }
+fn compared_known(
+    scene: &Scene,
+    scope: &Bindings,
+    a: &IntExpr,
+    how: Comparator,
+    b: &IntExpr,
+) -> Option<bool>
+    ensures { IfSome result (IsKnownPair (scene_seen scene.now) how (int_seen a.now) (int_seen b.now)) }
 {
-    if is_fixed_number(expr) {
-        return number_at_hand(scene, scope, expr);
+    if is_fixed_number(a) && is_fixed_number(b) {
+        return compared_at_hand(scene, scope, a, how, b);
     }
     None
-}
-
-#[inline(always)]
-fn are_equal(one: i64, other: i64) -> bool
-    ensures { result ≡ int_eq one other }
-{
-    one == other
-}
-
-#[inline(always)]
-fn equal_known(scene: &Scene, scope: &Bindings, a: &IntExpr, b: &IntExpr) -> Option<bool>
-    ensures { IfSome result (IsKnownPair (scene_seen scene.now) int_eq (int_seen a.now) (int_seen b.now)) }
-{
-    match fixed_number(scene, scope, a) {
-        Some(one) => match fixed_number(scene, scope, b) {
-            Some(other) => Some(are_equal(one, other)),
-            None => None,
-        },
-        None => None,
-    }
-}
-
-#[inline(always)]
-fn is_less(one: i64, other: i64) -> bool
-    ensures { result ≡ int_lt one other }
-{
-    one < other
-}
-
-#[inline(always)]
-fn less_known(scene: &Scene, scope: &Bindings, a: &IntExpr, b: &IntExpr) -> Option<bool>
-    ensures { IfSome result (IsKnownPair (scene_seen scene.now) int_lt (int_seen a.now) (int_seen b.now)) }
-{
-    match fixed_number(scene, scope, a) {
-        Some(one) => match fixed_number(scene, scope, b) {
-            Some(other) => Some(is_less(one, other)),
-            None => None,
-        },
-        None => None,
-    }
-}
-
-#[inline(always)]
-fn is_at_most(one: i64, other: i64) -> bool
-    ensures { result ≡ int_le one other }
-{
-    one <= other
-}
-
-#[inline(always)]
-fn at_most_known(scene: &Scene, scope: &Bindings, a: &IntExpr, b: &IntExpr) -> Option<bool>
-    ensures { IfSome result (IsKnownPair (scene_seen scene.now) int_le (int_seen a.now) (int_seen b.now)) }
-{
-    match fixed_number(scene, scope, a) {
-        Some(one) => match fixed_number(scene, scope, b) {
-            Some(other) => Some(is_at_most(one, other)),
-            None => None,
-        },
-        None => None,
-    }
 }
 
 // The location that a variable runs over, if no variable owns it.
@@ -242,66 +173,47 @@ fn fixed_location<'d>(cards: &'d CollExpr) -> Option<&'d Loc>
     }
 }
 
-// Whether all cards of such a location are as they are wanted.
+// Whether one of the cards of such a location is as it is wanted, or all of them.
 #[inline(never)]
-fn all_known(
+fn known_over(
     scene: &Scene,
     scope: &Bindings,
     count: usize,
     domain: &Domain,
     inner: &Test,
+    any: bool,
 ) -> Option<bool>
-    ensures { IfSome result (IsAllKnownAt (scene_seen scene.now) count (domain_seen domain.now) (test_seen inner.now)) }
+    ensures { IfSome result (IsKnownOver (scene_seen scene.now) count any (domain_seen domain.now)
+        (test_seen inner.now)) }
 {
     match location_of(domain) {
         Some(loc) => match wanted_at(scene, scope, count, inner) {
-            Some(wanted) => Some(all_there(scene, scope, loc, wanted)),
+            Some(wanted) => Some(are_there(scene, scope, loc, wanted, any)),
             None => None,
         },
         None => None,
     }
 }
 
-// Whether one of them is.
-#[inline(never)]
-fn any_known(
+/// Whether one of the cards of a location is as it is wanted, or all of them.
+#[inline(always)]
+pub(crate) fn are_there(
     scene: &Scene,
     scope: &Bindings,
-    count: usize,
-    domain: &Domain,
-    inner: &Test,
-) -> Option<bool>
-    ensures { IfSome result (IsAnyKnownAt (scene_seen scene.now) count (domain_seen domain.now) (test_seen inner.now)) }
-{
-    match location_of(domain) {
-        Some(loc) => match wanted_at(scene, scope, count, inner) {
-            Some(wanted) => Some(some_there(scene, scope, loc, wanted)),
-            None => None,
-        },
-        None => None,
-    }
-}
-
-// Whether all cards of a location are as they are wanted.
-#[inline(always)]
-fn all_there(scene: &Scene, scope: &Bindings, loc: &Loc, wanted: WantedValue) -> bool
-    ensures { result ≡ list_all (wanted_value (scene_seen scene.now) wanted)
+    loc: &Loc,
+    wanted: WantedValue,
+    any: bool,
+) -> bool
+    ensures { result ≡ over any (wanted_value (scene_seen scene.now) wanted)
         (coll_value (scene_seen scene.now) scope.now (cards_in (loc_seen loc.now))) }
 {
     match scene.lookup.values(wanted.name) {
-        Some(row) => all_met_in(row, wanted, ids_of(scene, scope, loc)),
-        None => all_one_by_one(scene, wanted, &cards_of(scene, scope, loc)),
-    }
-}
-
-/// Whether one of them is.
-#[inline(always)]
-pub(crate) fn some_there(scene: &Scene, scope: &Bindings, loc: &Loc, wanted: WantedValue) -> bool
-    ensures { result ≡ list_any (wanted_value (scene_seen scene.now) wanted)
-        (coll_value (scene_seen scene.now) scope.now (cards_in (loc_seen loc.now))) }
-{
-    match scene.lookup.values(wanted.name) {
-        Some(row) => some_met_in(row, wanted, ids_of(scene, scope, loc)),
-        None => some_one_by_one(scene, wanted, &cards_of(scene, scope, loc)),
+        Some(row) => are_met_in(row, wanted, ids_of(scene, scope, loc), any),
+        None => are_as_sought(
+            scene,
+            Sought::Value(wanted),
+            &cards_of(scene, scope, loc),
+            any,
+        ),
     }
 }

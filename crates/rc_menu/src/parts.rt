@@ -11,7 +11,7 @@ ghost use Rattle.rc_value.specs.Scene.{scene_seen};
 ghost use Rattle.rc_value.specs.Wanted.{IsWantedAt};
 
 use crate::asks::{Asks, Parts, ask_in};
-use crate::known::{AtHand, some_there, turned_if};
+use crate::known::{AtHand, are_there, turned_if};
 use rc_code::{CardTest, Condition, Guard, GuardPart, Sense};
 use rc_value::{Bindings, Scene, WantedValue, attr_of_id, comparison_holds, top_id};
 
@@ -55,7 +55,7 @@ fn condition_at_hand(scene: &Scene, scope: &Bindings, condition: &Condition) -> 
             card_test,
         } => {
             let wanted = wanted_by(scene, scope, card_test);
-            AtHand::Holds(some_there(scene, scope, among, wanted))
+            AtHand::Holds(are_there(scene, scope, among, wanted, true))
         }
     }
 }

@@ -1,67 +1,60 @@
 -- Tests of all players that compare a number of each with one that is the same for all.
-use Rattle.std.proofs.Common.{◌≡◌, ℕ, zero, suc, ℤ, false, List, [], ◌∷◌, ◌++◌, length, map, slice_get, Option, Some, None, refl, sym, ap, ap₂, ◌∙◌}
+use Rattle.std.proofs.Common.{◌≡◌, ℕ, ℤ, pos, false, Bool, List, [], ◌∷◌, ◌++◌, length, map, slice_get, Option, Some, None, refl, sym, ap, ap₂, ◌∙◌}
 use Rattle.std.specs.Prelude.{IfSome}
-use mathlib.Core.Path.{fun_ext}
-use Rattle.std.specs.List.{list_any, list_all}
-use Rattle.rc_deck.proofs.EachLemmas.{any-map}
-use Rattle.rc_sheet_spec.specs.Sheet.{player_class, Who, game, current_player, current_team, team_of_current, team_of_var, who_var, Num, NumName, IntExpr, literal, number, Test}
+use Rattle.std.specs.List.{list_all}
+use Rattle.std.specs.Ordering.{int_eq}
+use Rattle.rc_base.specs.Numbers.{below}
+use Rattle.rc_sheet_spec.specs.Sheet.{player_class, who_var, Loc, LocName, Num, NumName, CollExpr, cards_in, IntExpr, literal, number, size_of, Test, eq_int, all_of, each_player}
 use Rattle.rc_sheet_spec.specs.Naming.{class_of}
 use Rattle.rc_play_spec.specs.Owners.{place_among}
-use Rattle.rc_play_spec.specs.Shape.{team_at}
 use Rattle.rc_play_spec.specs.Scene.{CardValue}
-use Rattle.rc_play_spec.specs.Value.{Scene as PureScene, Bind as PureBind, Known, player_bound, player_of, who_value, num_place, number_there, int_value, test_value}
-use Rattle.rc_flow.specs.Reads.{reads_who}
-use Rattle.rc_flow.proofs.Unread.{other_place}
+use Rattle.rc_play_spec.specs.Value.{Scene as PureScene, Bind as PureBind, player_bound, player_of, who_value, num_place, number_there, cards_there, cut, int_value, test_value}
 use Rattle.rc_code.specs.declared.atoms.Comparator.{Comparator}
+use Rattle.rc_code.specs.declared.atoms.Comparator.TheVariants.{Equal}
+use Rattle.rc_value.specs.declared.comparing.Own.{Own}
+use Rattle.rc_value.specs.declared.comparing.Own.TheVariants.{Number, Size}
 use Rattle.rc_value.specs.declared.comparing.Suited.{Suited}
-use Rattle.rc_value.specs.Comparing.{compare, number_held, suits, ArePaired, IsHisNumber, IsSameForAll, IsSuited}
-use Rattle.rc_value.proofs.HoldingLemmas.{his}
-use Rattle.rc_value.proofs.Steps.{all-map}
+use Rattle.rc_value.specs.Comparing.{compare, held, suits, ArePaired, IsHisOwn, IsSameForAll, IsSuited}
+use Rattle.rc_value.specs.Once.{IsOuterOwner}
+use Rattle.rc_value.specs.Over.{over}
+use Rattle.rc_value.proofs.OverLemmas.{over_alike}
+use Rattle.rc_value.proofs.WantedLemmas.{at_end}
 
--- a number of the player that the innermost variable stands for, where there may be none
-pub his_any : (place : ℕ) (num : Num) (e : IntExpr) (name : Option ℕ) → e ≡ number num →
-    IfSome name (λ n. num ≡ record { who = who_var place; name = n }) → IfSome name (IsHisNumber place e)
-his_any place num e None is here = here
-his_any place num e (Some name) is here = λ s vars player count.
-    ap (int_value s (vars ++ player_bound player ∷ [])) (is ∙ ap number here)
-    ∙ ap (λ n. number_there s.known.numbers (place_among s.known.sheet player_class (map (λ (l : NumName). l.class) s.known.sheet.nums) name n)) (his vars player place count)
+-- what the innermost variable stands for
+bound_player : (vars : List (PureBind CardValue)) (player place : ℕ) → length vars ≡ place → player_of (slice_get (vars ++ player_bound player ∷ []) place) ≡ player
+bound_player vars player place is = ap (λ n. player_of (slice_get (vars ++ player_bound player ∷ []) n)) (sym is) ∙ ap player_of (at_end vars (player_bound player))
 
--- what stands before one more variable
-at_outside : {B : Type 0} (vars : List B) (m : B) (var : ℕ) → (var ≡ length vars → ⊥) → slice_get (vars ++ m ∷ []) var ≡ slice_get vars var
-at_outside [] m zero other = absurd (other refl)
-at_outside [] m (suc var) other = refl
-at_outside (b ∷ vars) m zero other = refl
-at_outside (b ∷ vars) m (suc var) other = at_outside vars m var (λ same. other (ap suc same))
+-- what the player has that it stands for: a number, or cards in a location
+pub number_own : (place : ℕ) (num : Num) → num.who ≡ who_var place → IsHisOwn place (number num) (Number num.name)
+number_own place num his = λ s vars player count.
+    ap (λ who. number_there s.known.numbers (place_among s.known.sheet (class_of who) (map (λ (l : NumName). l.class) s.known.sheet.nums) num.name (who_value s.known (vars ++ player_bound player ∷ []) who))) his
+    ∙ ap (λ n. number_there s.known.numbers (place_among s.known.sheet player_class (map (λ (l : NumName). l.class) s.known.sheet.nums) num.name n)) (bound_player vars player place count)
 
-module _ (known : Known) (vars : List (PureBind CardValue)) (m : PureBind CardValue) where
-  outside_who : (who : Who) → reads_who (length vars) who ≡ false → who_value known (vars ++ m ∷ []) who ≡ who_value known vars who
-  outside_who game e = refl
-  outside_who current_player e = refl
-  outside_who current_team e = refl
-  outside_who team_of_current e = refl
-  outside_who (team_of_var var) e = ap (λ b. team_at known.shape (player_of b)) (at_outside vars m var (other_place var (length vars) e))
-  outside_who (who_var var) e = ap player_of (at_outside vars m var (other_place var (length vars) e))
+pub size_own : (place : ℕ) (loc : Loc) → loc.who ≡ who_var place → IsHisOwn place (size_of (cards_in loc)) (Size loc.name)
+size_own place loc his = λ s vars player count.
+    ap (λ who. pos (length (cut (cards_there s (place_among s.known.sheet (class_of who) (map (λ (l : LocName). l.class) s.known.sheet.locs) loc.name (who_value s.known (vars ++ player_bound player ∷ []) who)))))) his
+    ∙ ap (λ n. pos (length (cut (cards_there s (place_among s.known.sheet player_class (map (λ (l : LocName). l.class) s.known.sheet.locs) loc.name n))))) (bound_player vars player place count)
 
 module _ (s : PureScene CardValue) (vars : List (PureBind CardValue)) where
   pub literal_same : (e : IntExpr) (value : ℤ) → e ≡ literal value → IsSameForAll s vars e value
   literal_same e value is = λ m. ap (int_value s (vars ++ m ∷ [])) is
 
-  pub number_same : (e : IntExpr) (num : Num) (place : ℕ) (n : ℤ) → e ≡ number num → place ≡ length vars → reads_who place num.who ≡ false →
+  pub number_same : (e : IntExpr) (num : Num) (n : ℤ) → e ≡ number num → IsOuterOwner (length vars) num.who →
       n ≡ number_there s.known.numbers (num_place s.known vars num) → IsSameForAll s vars e n
-  number_same e num place n is count unread here = λ m.
+  number_same e num n is outer here = λ m.
       ap (int_value s (vars ++ m ∷ [])) is
       ∙ ap (λ owner. number_there s.known.numbers (place_among s.known.sheet (class_of num.who) (map (λ (l : NumName). l.class) s.known.sheet.nums) num.name owner))
-      (outside_who s.known vars m num.who (ap (λ k. reads_who k num.who) (sym count) ∙ unread))
+      (outer s.known vars m refl)
       ∙ sym here
 
   -- two numbers, of which the first is his
-  module _ (a b : IntExpr) (place name : ℕ) (how : Comparator) (count : place ≡ length vars) where
-    pub paired_his : (w : Option Suited) → IsHisNumber place a name →
-        IfSome w (λ w. (w.name ≡ name) × (w.how ≡ how) × IsSameForAll s vars b w.against) → IfSome w (ArePaired s vars a how b)
-    paired_his None own told = told
-    paired_his (Some w) own told = λ player.
-        ap₂ (compare how) (own s vars player (sym count)) (told.2 (player_bound player))
-        ∙ ap₂ (λ h n. compare h (number_held s n player) w.against) (sym told.1) (sym told.0)
+  module _ (a b : IntExpr) (place : ℕ) (own : Own) (how : Comparator) (count : place ≡ length vars) where
+    pub paired_his : (w : Option Suited) → IsHisOwn place a own →
+        IfSome w (λ w. (w.own ≡ own) × (w.how ≡ how) × IsSameForAll s vars b w.against) → IfSome w (ArePaired s vars a how b)
+    paired_his None his told = told
+    paired_his (Some w) his told = λ player.
+        ap₂ (compare how) (his s vars player (sym count)) (told.2 (player_bound player))
+        ∙ ap₂ (λ h o. compare h (held s o player) w.against) (sym told.1) (sym told.0)
 
   -- a test of them
   pub suited_is : (t : Test) (a b : IntExpr) (how : Comparator) (w : Option Suited) →
@@ -71,13 +64,18 @@ module _ (s : PureScene CardValue) (vars : List (PureBind CardValue)) where
   suited_is t a b how (Some w) same told = λ player. same (vars ++ player_bound player ∷ []) ∙ told player
 
   -- all of them, or one
-  module _ (t : Test) (w : Suited) (players : List ℕ) (is : IsSuited s vars t w) where
-    pub all_suited : list_all (suits s w) players ≡ list_all (λ m. test_value s (vars ++ m ∷ []) t) (map (λ n. player_bound n) players)
-    all_suited =
-        ap (λ f. list_all f players) (fun_ext (λ n. sym (is n)))
-        ∙ sym (all-map (λ m. test_value s (vars ++ m ∷ []) t) (λ n. player_bound n) players)
+  pub over_players : (any : Bool) (t : Test) (w : Suited) (players : List ℕ) → IsSuited s vars t w →
+      over any (suits s w) players ≡ over any (λ m. test_value s (vars ++ m ∷ []) t) (map (λ n. player_bound n) players)
+  over_players any t w players is = over_alike any (suits s w) (λ m. test_value s (vars ++ m ∷ []) t) (λ n. player_bound n) players is
 
-    pub any_suited : list_any (suits s w) players ≡ list_any (λ m. test_value s (vars ++ m ∷ []) t) (map (λ n. player_bound n) players)
-    any_suited =
-        ap (λ f. list_any f players) (fun_ext (λ n. sym (is n)))
-        ∙ sym (any-map (λ m. test_value s (vars ++ m ∷ []) t) (λ n. player_bound n) players)
+-- the test itself, outside all binders
+abbrev his_cards : ℕ → ℕ → CollExpr
+his_cards name at = cards_in (record { who = who_var 0; name = name; at = at })
+
+pub each_held : (s : PureScene CardValue) (name at bound : ℕ) (count : ℤ) →
+    list_all (suits s (record { own = Size name; how = Equal; against = count })) (below s.known.sheet.players)
+    ≡ test_value s [] (all_of each_player bound (eq_int (size_of (his_cards name at)) (literal count)))
+each_held s name at bound count =
+    let own = size_own 0 (record { who = who_var 0; name = name; at = at }) refl in
+    over_players s [] false (eq_int (size_of (his_cards name at)) (literal count)) (record { own = Size name; how = Equal; against = count })
+    (below s.known.sheet.players) (λ player. ap (λ n. int_eq n count) (own s [] player refl))

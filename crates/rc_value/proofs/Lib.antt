@@ -1,5 +1,6 @@
 pub mod Lists
 pub mod BindingLemmas
+pub mod OverLemmas
 pub mod Steps
 pub mod Passing
 pub mod Faces
@@ -8,7 +9,6 @@ pub mod Firsts
 pub mod WantedLemmas
 pub mod OnceLemmas
 pub mod RowLemmas
-pub mod HoldingLemmas
 pub mod ComparingLemmas
 pub mod CurrentLemmas
 pub mod AtomLemmas

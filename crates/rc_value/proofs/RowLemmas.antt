@@ -1,11 +1,10 @@
 -- Rows of ids, and the cards that they stand for.
 use Rattle.std.proofs.Common.{◌≡◌, ℕ, ◌≤◌, ◌-◌, suc, Bool, true, false, List, [], ◌∷◌, length, map, slice_get, slice_index_or, ℤ, pos, Option, Some, None, option_map, arith, refl, sym, ap, ◌∙◌}
 use mathlib.Core.Path.{fun_ext}
-use Rattle.std.specs.List.{list_any, list_all, filter}
+use Rattle.std.specs.List.{filter}
 use Rattle.std.proofs.lemmas.List.{length-map, take_all}
 use Rattle.rc_base.specs.Numbers.{below}
 use Rattle.rc_base.specs.Deck.{value_at}
-use Rattle.rc_deck.proofs.EachLemmas.{any-map}
 use Rattle.rc_play_spec.specs.Ends.{last_of}
 use Rattle.rc_play_spec.specs.Scene.{CardValue, held, id_of, value_in}
 use Rattle.rc_play_spec.specs.Shape.{face_at}
@@ -14,10 +13,12 @@ use Rattle.rc_rules.specs.Lookup.{rows_seen, value_row}
 use Rattle.rc_rules.proofs.Rows.{in_row, row_below}
 use Rattle.rc_value.specs.declared.scene.Scene.{Scene}
 use Rattle.rc_value.specs.declared.wanted.WantedValue.{WantedValue}
+use Rattle.rc_value.specs.Over.{over}
 use Rattle.rc_value.specs.Scene.{scene_seen}
 use Rattle.rc_value.specs.Seen.{read_in}
 use Rattle.rc_value.specs.Wanted.{meets, wanted_value}
-use Rattle.rc_value.proofs.Steps.{all-map, count-map}
+use Rattle.rc_value.proofs.OverLemmas.{over-map}
+use Rattle.rc_value.proofs.Steps.{count-map}
 
 id_in : (b : Bool) (loc id : ℕ) → id_of (value_in b loc id) ≡ id
 id_in true loc id = refl
@@ -80,19 +81,12 @@ pub met_in_row : (s : Scene) (w : WantedValue) (c : CardValue) (row : List (Opti
 unfolding scene_seen
 met_in_row s w c row here = ap (meets w) (row_value s w.name (id_of c) row here)
 
-pub all_met : (s : Scene) (w : WantedValue) (row : List (Option ℕ)) (ids : List ℕ) (cards : List CardValue) →
+pub over_met : (any : Bool) (s : Scene) (w : WantedValue) (row : List (Option ℕ)) (ids : List ℕ) (cards : List CardValue) →
     Some row ≡ slice_get (rows_seen s.lookup.now.values.items) w.name → ids ≡ map id_of cards →
-    list_all (λ id. meets w (slice_index_or row id None)) ids ≡ list_all (wanted_value (scene_seen s) w) cards
-all_met s w row ids cards here are =
-    ap (list_all (λ id. meets w (slice_index_or row id None))) are ∙ all-map (λ id. meets w (slice_index_or row id None)) id_of cards
-    ∙ ap (λ f. list_all f cards) (fun_ext (λ c. met_in_row s w c row here))
-
-pub some_met : (s : Scene) (w : WantedValue) (row : List (Option ℕ)) (ids : List ℕ) (cards : List CardValue) →
-    Some row ≡ slice_get (rows_seen s.lookup.now.values.items) w.name → ids ≡ map id_of cards →
-    list_any (λ id. meets w (slice_index_or row id None)) ids ≡ list_any (wanted_value (scene_seen s) w) cards
-some_met s w row ids cards here are =
-    ap (list_any (λ id. meets w (slice_index_or row id None))) are ∙ any-map (λ id. meets w (slice_index_or row id None)) id_of cards
-    ∙ ap (λ f. list_any f cards) (fun_ext (λ c. met_in_row s w c row here))
+    over any (λ id. meets w (slice_index_or row id None)) ids ≡ over any (wanted_value (scene_seen s) w) cards
+over_met any s w row ids cards here are =
+    ap (over any (λ id. meets w (slice_index_or row id None))) are ∙ over-map any (λ id. meets w (slice_index_or row id None)) id_of cards
+    ∙ ap (λ f. over any f cards) (fun_ext (λ c. met_in_row s w c row here))
 
 pub count_met : (s : Scene) (w : WantedValue) (row : List (Option ℕ)) (ids : List ℕ) (cards : List CardValue) →
     Some row ≡ slice_get (rows_seen s.lookup.now.values.items) w.name → ids ≡ map id_of cards →

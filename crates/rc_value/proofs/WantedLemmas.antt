@@ -2,9 +2,7 @@
 use Rattle.std.proofs.Common.{◌≡◌, ℕ, ◌&&◌, Bool, ◌==◌, true, false, List, [], ◌∷◌, ◌++◌, length, map, filter, slice_get, Option, Some, None, option_map, arith, refl, sym, ap, ap₂, subst, ◌∙◌}
 use Rattle.std.specs.Prelude.{IfSome}
 use mathlib.Core.Path.{fun_ext}
-use Rattle.std.specs.List.{list_any, list_all}
 use Rattle.std.proofs.lemmas.Bool.Decides.{nat_tests}
-use Rattle.rc_deck.proofs.EachLemmas.{any-map}
 use Rattle.rc_sheet_spec.specs.Sheet.{Loc, LocName, CardExpr, card_var, top_card, CollExpr, cards_in, Test, eq_attr, eq_card, has_value}
 use Rattle.rc_sheet_spec.specs.Naming.{class_of}
 use Rattle.rc_play_spec.specs.Owners.{place_among}
@@ -13,10 +11,11 @@ use Rattle.rc_play_spec.specs.Value.{Scene as PureScene, Bind as PureBind, card_
 use Rattle.rc_flow.specs.Reads.{reads_card}
 use Rattle.rc_flow.proofs.Unread.{unread_card}
 use Rattle.rc_value.specs.declared.wanted.WantedValue.{WantedValue}
+use Rattle.rc_value.specs.Over.{over}
 use Rattle.rc_value.specs.Wanted.{wanted_value, IsFixed, IsFixedCollection, IsFixedOwner, IsWanted, IsWantedAt}
 use Rattle.rc_value.specs.Sought.{has_face}
 use Rattle.rc_play_spec.specs.Shape.{face_eq}
-use Rattle.rc_value.proofs.Steps.{all-map}
+use Rattle.rc_value.proofs.OverLemmas.{over_alike}
 
 pub at_end : {B : Type 0} (vars : List B) (m : B) → slice_get (vars ++ m ∷ []) (length vars) ≡ Some m
 at_end [] m = refl
@@ -85,30 +84,10 @@ module _ (s : PureScene CardValue) (vars : List (PureBind CardValue)) where
       ap (test_value s (vars ++ card_bound c ∷ [])) is
       ∙ ap (λ x. both nat_same (attr_of_any s name x) (Some value)) (variable_is c a variable)
 
-  pub all_wanted : (t : Test) (w : WantedValue) (cards : List CardValue) → IsWanted s vars t w →
-      list_all (wanted_value s w) cards ≡ list_all (λ m. test_value s (vars ++ m ∷ []) t) (map (λ c. card_bound c) cards)
-  all_wanted t w cards h =
-      ap (λ f. list_all f cards) (fun_ext (λ c. sym (h c)))
-      ∙ sym (all-map (λ m. test_value s (vars ++ m ∷ []) t) (λ c. card_bound c) cards)
-
-  pub any_wanted : (t : Test) (w : WantedValue) (cards : List CardValue) → IsWanted s vars t w →
-      list_any (wanted_value s w) cards ≡ list_any (λ m. test_value s (vars ++ m ∷ []) t) (map (λ c. card_bound c) cards)
-  any_wanted t w cards h =
-      ap (λ f. list_any f cards) (fun_ext (λ c. sym (h c)))
-      ∙ sym (any-map (λ m. test_value s (vars ++ m ∷ []) t) (λ c. card_bound c) cards)
-
   -- what is the same of each card is the same of all, of one of them, and of those that are kept
-  pub all_told : (t : Test) (P : CardValue → Bool) (cards : List CardValue) → ((c : CardValue) → test_value s (vars ++ card_bound c ∷ []) t ≡ P c) →
-      list_all P cards ≡ list_all (λ m. test_value s (vars ++ m ∷ []) t) (map (λ c. card_bound c) cards)
-  all_told t P cards h =
-      ap (λ f. list_all f cards) (fun_ext (λ c. sym (h c)))
-      ∙ sym (all-map (λ m. test_value s (vars ++ m ∷ []) t) (λ c. card_bound c) cards)
-
-  pub any_told : (t : Test) (P : CardValue → Bool) (cards : List CardValue) → ((c : CardValue) → test_value s (vars ++ card_bound c ∷ []) t ≡ P c) →
-      list_any P cards ≡ list_any (λ m. test_value s (vars ++ m ∷ []) t) (map (λ c. card_bound c) cards)
-  any_told t P cards h =
-      ap (λ f. list_any f cards) (fun_ext (λ c. sym (h c)))
-      ∙ sym (any-map (λ m. test_value s (vars ++ m ∷ []) t) (λ c. card_bound c) cards)
+  pub over_told : (any : Bool) (t : Test) (P : CardValue → Bool) (cards : List CardValue) → ((c : CardValue) → test_value s (vars ++ card_bound c ∷ []) t ≡ P c) →
+      over any P cards ≡ over any (λ m. test_value s (vars ++ m ∷ []) t) (map (λ c. card_bound c) cards)
+  over_told any t P cards h = over_alike any P (λ m. test_value s (vars ++ m ∷ []) t) (λ c. card_bound c) cards h
 
   pub kept_told : (t : Test) (P : CardValue → Bool) (cards : List CardValue) → ((c : CardValue) → test_value s (vars ++ card_bound c ∷ []) t ≡ P c) →
       filter P cards ≡ filter (λ c. test_value s (vars ++ card_bound c ∷ []) t) cards

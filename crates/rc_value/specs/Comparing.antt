@@ -1,12 +1,14 @@
--- Tests of all players that compare a number of each with one that is the same for all.
-use Rattle.std.specs.Prelude.{◌≡◌, ℕ, ℤ, int_lt, int_le, ◌++◌, ◌∷◌, [], Bool, List, length, map}
+-- Tests of all players that compare what each has with a number that is the same for all.
+use Rattle.std.specs.Prelude.{◌≡◌, ℕ, ℤ, pos, int_lt, int_le, ◌++◌, ◌∷◌, [], Bool, List, length, map}
 use Rattle.std.specs.Ordering.{int_eq}
 use Rattle.rc_sheet_spec.specs.Sheet.{player_class, IntExpr, Test}
 use Rattle.rc_play_spec.specs.Owners.{place_among}
-use Rattle.rc_play_spec.specs.Value.{Scene as PureScene, Bind as PureBind, player_bound, number_there, int_value, test_value}
+use Rattle.rc_play_spec.specs.Value.{Scene as PureScene, Bind as PureBind, player_bound, number_there, cards_there, cut, int_value, test_value}
 use Rattle.rc_play_spec.specs.Scene.{CardValue}
 use Rattle.rc_code.specs.declared.atoms.Comparator.{Comparator}
 use Rattle.rc_code.specs.declared.atoms.Comparator.TheVariants.{Equal, Less, AtMost, More, AtLeast}
+use Rattle.rc_value.specs.declared.comparing.Own.{Own}
+use Rattle.rc_value.specs.declared.comparing.Own.TheVariants.{Number, Size}
 use Rattle.rc_value.specs.declared.comparing.Suited.{Suited}
 
 -- whether a number compares so with another
@@ -30,15 +32,25 @@ abbrev pub number_held : PureScene CardValue → ℕ → ℕ → ℤ
 number_held s name player =
     number_there s.known.numbers (place_among s.known.sheet player_class (map (λ n. n.class) s.known.sheet.nums) name player)
 
+-- how many cards a player has in his location of a name
+abbrev pub size_held : PureScene CardValue → ℕ → ℕ → ℕ
+size_held s name player =
+    length (cut (cards_there s (place_among s.known.sheet player_class (map (λ l. l.class) s.known.sheet.locs) name player)))
+
+-- what he has of a name
+abbrev pub held : PureScene CardValue → Own → ℕ → ℤ
+held s (Number name) player = number_held s name player
+held s (Size name) player = pos (size_held s name player)
+
 -- whether it compares as it is to
 abbrev pub suits : PureScene CardValue → Suited → ℕ → Bool
-suits s w player = compare w.how (number_held s w.name player) w.against
+suits s w player = compare w.how (held s w.own player) w.against
 
--- a number of the player that the innermost variable stands for, inside so many others: his number of a name
-abbrev pub IsHisNumber : ℕ → IntExpr → ℕ → Type 0
-IsHisNumber place e name =
+-- a number that is what the player has that the innermost variable stands for, inside so many others
+abbrev pub IsHisOwn : ℕ → IntExpr → Own → Type 0
+IsHisOwn place e own =
     (s : PureScene CardValue) (vars : List (PureBind CardValue)) (player : ℕ) → length vars ≡ place →
-    int_value s (vars ++ player_bound player ∷ []) e ≡ number_held s name player
+    int_value s (vars ++ player_bound player ∷ []) e ≡ held s own player
 
 -- a number that is the same whatever the innermost variable stands for
 abbrev pub IsSameForAll : PureScene CardValue → List (PureBind CardValue) → IntExpr → ℤ → Type 0

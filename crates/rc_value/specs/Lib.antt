@@ -7,10 +7,10 @@ pub mod Scene
 pub mod Picks
 pub mod Groups
 pub mod Current
+pub mod Over
 pub mod Wanted
 pub mod Sought
 pub mod Once
-pub mod Holding
 pub mod Comparing
 pub mod Innermost
 pub mod Point

@@ -1,25 +1,35 @@
-//! Tests of all players that compare a number of each with one that is the same for all: that one is found once, and of
-//! each player no more than his number is looked up.
-ghost use Rattle.std.specs.Prelude.{◌≡◌, not, IfSome, true, false};
-ghost use Rattle.std.specs.List.{list_all, list_any};
+//! Tests of all players that compare what each has, a number of his or how many cards in a location, with a number that
+//! is the same for all: that one is found once, and of each player no more is looked up than what he has.
+ghost use Rattle.std.specs.Prelude.{◌≡◌, ℕ, ◌≤◌, [], IfSome};
+ghost use Rattle.rc_base.specs.Limits.{most_in_list};
 ghost use Rattle.rc_base.specs.Numbers.{below};
-ghost use Rattle.rc_sheet_spec.specs.Sheet.{who_var};
-ghost use Rattle.rc_ast.specs.Names.{num_seen, who_seen};
-ghost use Rattle.rc_ast.specs.Expressions.{int_seen, test_seen};
-ghost use Rattle.rc_flow.specs.Reads.{reads_who};
-ghost use Rattle.rc_value.specs.Comparing.{compare, number_held, suits, turned, ArePaired, IsHisNumber, IsSameForAll, IsSuited};
+ghost use Rattle.rc_sheet_spec.specs.Sheet.{all_of, cards_in, each_player, eq_int, literal, number, size_of as size_expr, who_var};
+ghost use Rattle.rc_play_spec.specs.Value.{test_value};
+ghost use Rattle.rc_ast.specs.Names.{num_seen};
+ghost use Rattle.rc_ast.specs.Expressions.{coll_seen, int_seen, test_seen};
+ghost use Rattle.rc_value.specs.Comparing.{compare, held, number_held, size_held, suits, turned, ArePaired, IsHisOwn, IsSameForAll, IsSuited};
+ghost use Rattle.rc_value.specs.declared.comparing.Own.TheVariants.{Size};
+ghost use Rattle.rc_value.specs.Over.{over};
 ghost use Rattle.rc_value.specs.Scene.{scene_seen};
 
 use crate::leaves::number_of;
+use crate::once::is_outer_owner;
 use crate::scene::Scene;
 use crate::scope::Bindings;
-use rc_ast::{Class, IntExpr, Num, Test, Who};
+use rc_ast::{Class, CollExpr, IntExpr, Num, Test, Who};
 use rc_code::Comparator;
 
-/// How a player's number of a name is to compare with a number that is the same for all players.
+/// What a player has of a name: a number, or so many cards in a location.
+#[derive(Clone, Copy)]
+pub(crate) enum Own {
+    Number(u16),
+    Size(u16),
+}
+
+/// How what a player has is to compare with a number that is the same for all players.
 #[derive(Clone, Copy)]
 pub(crate) struct Suited {
-    pub(crate) name: u16,
+    pub(crate) own: Own,
     pub(crate) how: Comparator,
     pub(crate) against: i64,
 }
@@ -50,10 +60,10 @@ fn comparison_of(
 ) -> Option<Suited>
     ensures { IfSome result (ArePaired (scene_seen scene.now) scope.now (int_seen a.now) how (int_seen b.now)) }
 {
-    match his_number(a, scope.len()) {
-        Some(name) => against(scene, scope, name, how, b),
-        None => match his_number(b, scope.len()) {
-            Some(name) => against(scene, scope, name, turn_comparison(how), a),
+    match his_own(a, scope.len()) {
+        Some(own) => against(scene, scope, own, how, b),
+        None => match his_own(b, scope.len()) {
+            Some(own) => against(scene, scope, own, turn_comparison(how), a),
             None => None,
         },
     }
@@ -73,41 +83,55 @@ fn turn_comparison(how: Comparator) -> Comparator
     }
 }
 
-// A player's number of this name against another number, if that is the same for all.
+// What a player has against another number, if that is the same for all.
 #[inline(always)]
 fn against(
     scene: &Scene,
     scope: &Bindings,
-    name: u16,
+    own: Own,
     how: Comparator,
     other: &IntExpr,
 ) -> Option<Suited>
-    ensures { IfSome result (λ s. (s.name ≡ name) × (s.how ≡ how)
+    ensures { IfSome result (λ s. (s.own ≡ own) × (s.how ≡ how)
         × IsSameForAll (scene_seen scene.now) scope.now (int_seen other.now) s.against) }
 {
     match same_for_all(scene, scope, other) {
-        Some(against) => Some(Suited { name, how, against }),
+        Some(against) => Some(Suited { own, how, against }),
         None => None,
     }
 }
 
-// The name of a number of the player that a variable stands for.
+// What a number is of the player that a variable stands for.
 #[inline(always)]
-fn his_number(expr: &IntExpr, place: usize) -> Option<u16>
-    ensures { IfSome result (IsHisNumber place (int_seen expr.now)) }
+fn his_own(expr: &IntExpr, place: usize) -> Option<Own>
+    ensures { IfSome result (IsHisOwn place (int_seen expr.now)) }
 {
     match expr {
-        IntExpr::Num(num) => name_of(num, place),
+        IntExpr::Num(num) => his_number(num, place),
+        IntExpr::Size(cards) => his_size(cards, place),
         _ => None,
     }
 }
 
 #[inline(always)]
-fn name_of(num: &Num, place: usize) -> Option<u16>
-    ensures { IfSome result (λ name. (num_seen num.now ≡ record { who = who_var place; name = name })) }
+fn his_number(num: &Num, place: usize) -> Option<Own>
+    ensures { IfSome result (IsHisOwn place (number (num_seen num.now))) }
 {
     match num.who {
-        Who::Var(var) if var as usize == place => Some(num.name),
+        Who::Var(var) if var as usize == place => Some(Own::Number(num.name)),
+        _ => None,
+    }
+}
+
+#[inline(always)]
+fn his_size(expr: &CollExpr, place: usize) -> Option<Own>
+    ensures { IfSome result (IsHisOwn place (size_expr (coll_seen expr.now))) }
+{
+    match expr {
+        CollExpr::Loc(loc) => match loc.who {
+            Who::Var(var) if var as usize == place => Some(Own::Size(loc.name)),
+            _ => None,
+        },
         _ => None,
     }
 }
@@ -120,56 +144,54 @@ fn same_for_all(scene: &Scene, scope: &Bindings, expr: &IntExpr) -> Option<i64>
     match expr {
         IntExpr::Lit(value) => Some(*value),
         IntExpr::Num(num) => {
-            if does_own(num.who, scope.len()) {
-                return None;
+            if is_outer_owner(num.who, scope.len()) {
+                return Some(number_of(scene, scope, num));
             }
-            Some(number_of(scene, scope, num))
+            None
         }
         _ => None,
     }
 }
 
-// Whether an owner is what a variable stands for, or his team.
+/// Whether one of the players has what is asked, or all of them. How many cards each has is asked most, and so in a loop
+/// of its own.
 #[inline(always)]
-fn does_own(who: Who, place: usize) -> bool
-    ensures { result ≡ reads_who place (who_seen who) }
+pub(crate) fn over_suited(scene: &Scene, suited: Suited, any: bool) -> bool
+    ensures { result ≡ over any (suits (scene_seen scene.now) suited)
+        (below (scene_seen scene.now).known.sheet.players) }
 {
-    match who {
-        Who::Game => false,
-        Who::CurrentPlayer => false,
-        Who::CurrentTeam => false,
-        Who::TeamOfCurrent => false,
-        Who::TeamOfVar(var) => var as usize == place,
-        Who::Var(var) => var as usize == place,
+    match suited.own {
+        Own::Size(name) => over_sized(scene, name, suited.how, suited.against, any),
+        Own::Number(_) => over_each(scene, suited, any),
     }
 }
 
-/// Whether each player's number is so.
-#[inline(never)]
-pub(crate) fn all_suit(scene: &Scene, suited: Suited) -> bool
-    ensures { result ≡ list_all (suits (scene_seen scene.now) suited)
-        (below (scene_seen scene.now).known.sheet.players) }
+#[inline(always)]
+fn over_sized(scene: &Scene, name: u16, how: Comparator, against: i64, any: bool) -> bool
+    ensures { result ≡ over any (suits (scene_seen scene.now)
+        (record { own = Size name; how = how; against = against })) (below (scene_seen scene.now).known.sheet.players) }
 {
-    for player in 0..scene.sheet.players {
-        if !does_suit(scene, suited, player) {
-            return false;
+    let own = Own::Size(name);
+    match how {
+        Comparator::Equal => {
+            let how = Comparator::Equal;
+            over_each(scene, Suited { own, how, against }, any)
         }
+        _ => over_each(scene, Suited { own, how, against }, any),
     }
-    true
 }
 
-/// Whether one of the players' numbers is so.
-#[inline(never)]
-pub(crate) fn any_suit(scene: &Scene, suited: Suited) -> bool
-    ensures { result ≡ list_any (suits (scene_seen scene.now) suited)
+#[inline(always)]
+fn over_each(scene: &Scene, suited: Suited, any: bool) -> bool
+    ensures { result ≡ over any (suits (scene_seen scene.now) suited)
         (below (scene_seen scene.now).known.sheet.players) }
 {
     for player in 0..scene.sheet.players {
-        if does_suit(scene, suited, player) {
-            return true;
+        if does_suit(scene, suited, player) == any {
+            return any;
         }
     }
-    false
+    !any
 }
 
 #[inline(always)]
@@ -178,9 +200,32 @@ fn does_suit(scene: &Scene, suited: Suited, player: u8) -> bool
 {
     compare(
         suited.how,
-        number_held_by(scene, suited.name, player),
+        held_by(scene, suited.own, player),
         suited.against,
     )
+}
+
+// What a player has.
+#[inline(always)]
+fn held_by(scene: &Scene, own: Own, player: u8) -> i64
+    ensures { result ≡ held (scene_seen scene.now) own player }
+{
+    match own {
+        Own::Number(name) => number_held_by(scene, name, player),
+        Own::Size(name) => size_held_by(scene, name, player) as i64,
+    }
+}
+
+// How many cards a player has in his location of a name.
+#[inline(always)]
+fn size_held_by(scene: &Scene, name: u16, player: u8) -> usize
+    ensures count { result ≡ size_held (scene_seen scene.now) name player }
+    ensures few { result ≤ most_in_list }
+{
+    match scene.lookup.location(name, Class::Player, player) {
+        Some(at) => scene.table.list(at).len(),
+        None => 0,
+    }
 }
 
 // A player's number of a name, and 0 where he has none.
@@ -192,6 +237,23 @@ fn number_held_by(scene: &Scene, name: u16, player: u8) -> i64
         Some(at) => scene.table.number(at),
         None => 0,
     }
+}
+
+/// Whether each player has so many cards in his location of a name. Neither the word of the test's variable nor the
+/// offset of the location's form matters.
+#[inline(always)]
+pub fn each_has(scene: &Scene, name: u16, count: i64) -> bool
+    ensures { (bound at : ℕ) → result
+        ≡ test_value (scene_seen scene.now) []
+        (all_of each_player bound (eq_int (size_expr (cards_in (record { who = who_var 0; name = name; at = at })))
+        (literal count))) }
+{
+    let suited = Suited {
+        own: Own::Size(name),
+        how: Comparator::Equal,
+        against: count,
+    };
+    over_suited(scene, suited, false)
 }
 
 /// Whether one number compares so with another.

@@ -1,21 +1,23 @@
 //! What is at hand: numbers, values and tests that are read off the table with no list, and with no other test inside
 //! them. Most of what a game asks is so. These functions stand in line where they are called, and what isn't at hand is
 //! left to others.
-ghost use Rattle.std.specs.Prelude.{◌≡◌, true, MatchOption, IfSome, int_lt, int_le, option_map, length, pos, Some};
-ghost use Rattle.std.specs.Ordering.{int_eq};
+ghost use Rattle.std.specs.Prelude.{◌≡◌, true, MatchOption, IfSome, option_map, map, length, pos, Some};
 ghost use Rattle.rc_play_spec.specs.Ends.{last_of};
 ghost use Rattle.rc_play_spec.specs.Scene.{id_of};
-ghost use Rattle.rc_play_spec.specs.Value.{attr_of_any, both, nat_same, worth_of_any, card_value, coll_value, int_value, test_value};
-ghost use Rattle.rc_ast.specs.Expressions.{card_seen, coll_seen, int_seen, test_seen};
+ghost use Rattle.rc_play_spec.specs.Value.{attr_of_any, both, card_bound, members, nat_same, worth_of_any, card_value, coll_value, int_value, test_value};
+ghost use Rattle.rc_ast.specs.Expressions.{card_seen, coll_seen, domain_seen, int_seen, test_seen};
+ghost use Rattle.rc_value.specs.Comparing.{compare};
 ghost use Rattle.rc_value.specs.Picks.{is_gathered};
 ghost use Rattle.rc_value.specs.Scene.{scene_seen};
 
 use crate::collection::Collection;
+use crate::comparing::compare;
 use crate::leaves::{attr_of_id, cards_of, number_of, worth_of_id};
 use crate::rows::{ids_of, top_id};
 use crate::scene::Scene;
 use crate::scope::Bindings;
-use rc_ast::{CardExpr, CollExpr, IntExpr, Test};
+use rc_ast::{CardExpr, CollExpr, Domain, IntExpr, Test};
+use rc_code::Comparator;
 
 /// The cards of a location or of a variable, which need no list of their own. None for another expression.
 #[inline(always)]
@@ -29,6 +31,22 @@ pub fn bare<'a>(scene: &'a Scene, scope: &'a Bindings, expr: &CollExpr) -> Optio
         CollExpr::Filter(_, _, _) => None,
         CollExpr::Union(_) => None,
         CollExpr::Known(_) => None,
+    }
+}
+
+/// The members of a domain of such cards. None for another domain.
+#[inline(always)]
+pub(crate) fn bare_members<'a>(
+    scene: &'a Scene,
+    scope: &'a Bindings,
+    domain: &Domain,
+) -> Option<Collection<'a>>
+    ensures { IfSome result (λ cards. map (λ c. card_bound c) cards
+        ≡ members (scene_seen scene.now) scope.now (domain_seen domain.now)) }
+{
+    match domain {
+        Domain::Coll(cards) => bare(scene, scope, cards),
+        _ => None,
     }
 }
 
@@ -110,48 +128,22 @@ pub(crate) fn value_at_hand(
     }
 }
 
-// Whether two numbers are equal, if they are at hand.
+/// Whether two numbers compare so, if they are at hand.
 #[inline(always)]
-fn equal_at_hand(scene: &Scene, scope: &Bindings, a: &IntExpr, b: &IntExpr) -> Option<bool>
+pub fn compared_at_hand(
+    scene: &Scene,
+    scope: &Bindings,
+    a: &IntExpr,
+    how: Comparator,
+    b: &IntExpr,
+) -> Option<bool>
     ensures { IfSome result (λ is. is
-        ≡ int_eq (int_value (scene_seen scene.now) scope.now (int_seen a.now))
+        ≡ compare how (int_value (scene_seen scene.now) scope.now (int_seen a.now))
         (int_value (scene_seen scene.now) scope.now (int_seen b.now))) }
 {
     match number_at_hand(scene, scope, a) {
         Some(one) => match number_at_hand(scene, scope, b) {
-            Some(other) => Some(one == other),
-            None => None,
-        },
-        None => None,
-    }
-}
-
-// Whether one is less than the other.
-#[inline(always)]
-fn less_at_hand(scene: &Scene, scope: &Bindings, a: &IntExpr, b: &IntExpr) -> Option<bool>
-    ensures { IfSome result (λ is. is
-        ≡ int_lt (int_value (scene_seen scene.now) scope.now (int_seen a.now))
-        (int_value (scene_seen scene.now) scope.now (int_seen b.now))) }
-{
-    match number_at_hand(scene, scope, a) {
-        Some(one) => match number_at_hand(scene, scope, b) {
-            Some(other) => Some(one < other),
-            None => None,
-        },
-        None => None,
-    }
-}
-
-// Whether one is at most the other.
-#[inline(always)]
-fn at_most_at_hand(scene: &Scene, scope: &Bindings, a: &IntExpr, b: &IntExpr) -> Option<bool>
-    ensures { IfSome result (λ is. is
-        ≡ int_le (int_value (scene_seen scene.now) scope.now (int_seen a.now))
-        (int_value (scene_seen scene.now) scope.now (int_seen b.now))) }
-{
-    match number_at_hand(scene, scope, a) {
-        Some(one) => match number_at_hand(scene, scope, b) {
-            Some(other) => Some(one <= other),
+            Some(other) => Some(compare(how, one, other)),
             None => None,
         },
         None => None,
@@ -205,11 +197,11 @@ pub(crate) fn test_at_hand(scene: &Scene, scope: &Bindings, expr: &Test) -> Opti
     ensures { IfSome result (λ is. is ≡ test_value (scene_seen scene.now) scope.now (test_seen expr.now)) }
 {
     match expr {
-        Test::EqInt(a, b) => equal_at_hand(scene, scope, a, b),
-        Test::Less(a, b) => less_at_hand(scene, scope, a, b),
-        Test::LessEq(a, b) => at_most_at_hand(scene, scope, a, b),
-        Test::More(a, b) => less_at_hand(scene, scope, b, a),
-        Test::MoreEq(a, b) => at_most_at_hand(scene, scope, b, a),
+        Test::EqInt(a, b) => compared_at_hand(scene, scope, a, Comparator::Equal, b),
+        Test::Less(a, b) => compared_at_hand(scene, scope, a, Comparator::Less, b),
+        Test::LessEq(a, b) => compared_at_hand(scene, scope, a, Comparator::AtMost, b),
+        Test::More(a, b) => compared_at_hand(scene, scope, a, Comparator::More, b),
+        Test::MoreEq(a, b) => compared_at_hand(scene, scope, a, Comparator::AtLeast, b),
         Test::EqAttr(a, name, b, other) => same_value_at_hand(scene, scope, a, *name, b, *other),
         Test::Is(card, name, value) => has_value_at_hand(scene, scope, card, *name, *value),
         _ => None,

@@ -30,7 +30,6 @@ mod loops;
 mod members;
 mod once;
 mod peeking;
-mod players;
 mod reading;
 mod rows;
 mod scene;
@@ -49,6 +48,7 @@ pub use binding::expressions_bind_few;
 pub use cards::{Card, Cards};
 pub use change::{Change, changed_number};
 pub use collection::Collection;
+pub use comparing::each_has;
 pub use context::{Context, scene_now};
 pub use counting::{count_decision, member_count, new_control};
 pub use current::{Current, current_inside, current_of};
@@ -57,21 +57,20 @@ pub use expressions::{card_of, coll_of, int_of};
 pub use few::{FewCards, few_cards_now, sole_card_now};
 pub use frames::{close_frame, open_frame, pass_frame};
 pub use groups::{Values, note_values, regroup, value_at};
-pub use hand::{bare, number_at_hand};
+pub use hand::{bare, compared_at_hand, number_at_hand};
 pub use held::held_among;
 pub use leaves::{attr_of_id, cards_of, value_in};
 pub use lookup::{loc_at, num_at, who_of};
 pub use members::{Member, bare_bind_at, bind_of, member_at};
 pub use peeking::joined_marks;
-pub use players::each_has;
 pub use reading::{card_now, cards_now, int_now, loc_now, num_now, test_now, who_now};
 pub use rows::{ids_of, top_id};
 pub use scene::Scene;
 pub use scope::{Bind, Bindings};
 pub use scoring::{code_has_ended, has_ended, scores_now};
 pub use shuffles::places;
-pub use tests::{test_of, wanted_of};
+pub use sought::{Sought, are_as_sought};
+pub use tests::{sought_of, test_of};
 pub use wanted::{
-    WantedValue, all_met_in, all_one_by_one, equal_at, is_fixed_collection, is_fixed_owner, is_so,
-    some_met_in, some_one_by_one, wanted_at,
+    WantedValue, are_met_in, equal_at, is_fixed_collection, is_fixed_owner, is_so, wanted_at,
 };

@@ -12,13 +12,13 @@ use crate::leaves::attr_of;
 use crate::rows::top_card;
 use crate::scene::Scene;
 use crate::scope::Bindings;
-use crate::sought::{Likeness, Sought, opposite};
-use crate::wanted::{WantedValue, is_variable};
+use crate::sought::{Sought, opposite, same_face, same_value};
+use crate::wanted::is_variable;
 use rc_ast::{CardExpr, CollExpr, Test, Who};
 
-// Whether an owner is no variable but one of so many outer ones.
+/// Whether an owner is no variable but one of so many outer ones.
 #[inline(always)]
-fn is_outer_owner(who: Who, count: usize) -> bool
+pub(crate) fn is_outer_owner(who: Who, count: usize) -> bool
     ensures { result ≡ true → IsOuterOwner count (who_seen who) }
 {
     match who {
@@ -72,26 +72,22 @@ fn card_once(scene: &Scene, scope: &Bindings, expr: &CardExpr) -> Option<Option<
 
 // To have the value of a card, if the card is known.
 #[inline(always)]
-fn same_value(scene: &Scene, name: u16, card: Option<Option<Card>>, other: u16) -> Option<Sought>
+fn value_of_once(scene: &Scene, name: u16, card: Option<Option<Card>>, other: u16) -> Option<Sought>
     ensures { result ≡ option_map (valued (scene_seen scene.now) name other) card }
 {
     match card {
-        Some(card) => Some(Sought::Value(WantedValue {
-            name,
-            value: attr_of(scene, card, other),
-            equal: true,
-        })),
+        Some(card) => Some(same_value(name, attr_of(scene, card, other))),
         None => None,
     }
 }
 
 // To have the face of a card, if the card is known.
 #[inline(always)]
-fn same_face(card: Option<Option<Card>>) -> Option<Sought>
+fn face_of_once(card: Option<Option<Card>>) -> Option<Sought>
     ensures { result ≡ option_map alike card }
 {
     match card {
-        Some(card) => Some(Sought::Face(Likeness { card, equal: true })),
+        Some(card) => Some(same_face(card)),
         None => None,
     }
 }
@@ -104,29 +100,25 @@ fn equal_once(scene: &Scene, scope: &Bindings, test: &Test) -> Option<Sought>
     match test {
         Test::EqAttr(a, name, b, other) => {
             if is_variable(a, scope.len()) {
-                return same_value(scene, *name, card_once(scene, scope, b), *other);
+                return value_of_once(scene, *name, card_once(scene, scope, b), *other);
             }
             if is_variable(b, scope.len()) {
-                return same_value(scene, *other, card_once(scene, scope, a), *name);
+                return value_of_once(scene, *other, card_once(scene, scope, a), *name);
             }
             None
         }
         Test::EqCard(a, b) => {
             if is_variable(a, scope.len()) {
-                return same_face(card_once(scene, scope, b));
+                return face_of_once(card_once(scene, scope, b));
             }
             if is_variable(b, scope.len()) {
-                return same_face(card_once(scene, scope, a));
+                return face_of_once(card_once(scene, scope, a));
             }
             None
         }
         Test::Is(card, name, value) => {
             if is_variable(card, scope.len()) {
-                return Some(Sought::Value(WantedValue {
-                    name: *name,
-                    value: Some(*value),
-                    equal: true,
-                }));
+                return Some(same_value(*name, Some(*value)));
             }
             None
         }

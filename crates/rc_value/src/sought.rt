@@ -1,31 +1,30 @@
 //! What is sought in cards: a value for an attribute, or the face of another card.
-ghost use Rattle.std.specs.Prelude.{◌≡◌, ◌≤◌, ◌++◌, length, filter, option_map};
-ghost use Rattle.std.specs.List.{list_any, list_all};
+ghost use Rattle.std.specs.Prelude.{◌≡◌, ◌≤◌, ◌++◌, length, filter, option_map, true};
 ghost use Rattle.rc_base.specs.Limits.{most_in_collection, most_in_list};
 ghost use Rattle.rc_play_spec.specs.Value.{cut};
 ghost use Rattle.rc_value.specs.Cards.{value_seen, values_seen};
+ghost use Rattle.rc_value.specs.Over.{over};
 ghost use Rattle.rc_value.specs.Scene.{scene_seen};
 ghost use Rattle.rc_value.specs.Sought.{face_value, reversed, sought_value};
+ghost use Rattle.rc_value.specs.declared.sought.Sought.TheVariants.{Value, Face};
 
 use crate::collection::Collection;
 use crate::leaves::are_same;
 use crate::loops::push_if;
 use crate::scene::Scene;
-use crate::wanted::{
-    WantedValue, all_as_wanted, count_if, count_met_in, is_as_wanted, some_as_wanted,
-};
+use crate::wanted::{WantedValue, are_met_in, count_if, count_met_in, is_as_wanted};
 use crate::{Card, Cards};
 
 /// A card whose face others are to have, or not to have. Where there is none, no card has its face.
 #[derive(Clone, Copy)]
-pub(crate) struct Likeness {
-    pub(crate) card: Option<Card>,
-    pub(crate) equal: bool,
+pub struct Likeness {
+    pub card: Option<Card>,
+    pub equal: bool,
 }
 
 /// What a test asks of a card, where all else that it reads is the same for each card.
 #[derive(Clone, Copy)]
-pub(crate) enum Sought {
+pub enum Sought {
     Value(WantedValue),
     Face(Likeness),
 }
@@ -50,6 +49,26 @@ fn is_as_sought(scene: &Scene, sought: Sought, card: Card) -> bool
     }
 }
 
+/// To have a value for an attribute.
+#[inline(always)]
+pub(crate) fn same_value(name: u16, value: Option<u16>) -> Sought
+    ensures { result ≡ Value (record { name = name; value = value; equal = true }) }
+{
+    Sought::Value(WantedValue {
+        name,
+        value,
+        equal: true,
+    })
+}
+
+/// To have the face of a card.
+#[inline(always)]
+pub(crate) fn same_face(card: Option<Card>) -> Sought
+    ensures { result ≡ Face (record { card = card; equal = true }) }
+{
+    Sought::Face(Likeness { card, equal: true })
+}
+
 /// The opposite of what is sought.
 #[inline(always)]
 pub(crate) fn opposite(sought: Option<Sought>) -> Option<Sought>
@@ -69,46 +88,31 @@ pub(crate) fn opposite(sought: Option<Sought>) -> Option<Sought>
     }
 }
 
-/// Whether all of the cards are so.
-pub(crate) fn all_as_sought(scene: &Scene, sought: Sought, cards: &Collection) -> bool
-    ensures { result ≡ list_all (sought_value (scene_seen scene.now) sought) cards.now }
+/// Whether one of the cards is so, or all of them.
+pub fn are_as_sought(scene: &Scene, sought: Sought, cards: &Collection, any: bool) -> bool
+    ensures { result ≡ over any (sought_value (scene_seen scene.now) sought) cards.now }
 {
-    match sought {
-        Sought::Value(wanted) => all_as_wanted(scene, wanted, cards),
-        Sought::Face(likeness) => all_like(scene, likeness, cards),
-    }
-}
-
-fn all_like(scene: &Scene, likeness: Likeness, cards: &Collection) -> bool
-    ensures { result ≡ list_all (face_value (scene_seen scene.now) likeness) cards.now }
-{
-    for place in 0..cards.len() {
-        if !is_like(scene, likeness, cards.at(place)) {
-            return false;
+    if let Sought::Value(wanted) = sought {
+        if let Some(ids) = cards.ids() {
+            if let Some(row) = scene.lookup.values(wanted.name) {
+                return are_met_in(row, wanted, ids, any);
+            }
         }
     }
-    true
+    are_one_by_one(scene, sought, cards, any)
 }
 
-/// Whether one of the cards is so.
-pub(crate) fn some_as_sought(scene: &Scene, sought: Sought, cards: &Collection) -> bool
-    ensures { result ≡ list_any (sought_value (scene_seen scene.now) sought) cards.now }
-{
-    match sought {
-        Sought::Value(wanted) => some_as_wanted(scene, wanted, cards),
-        Sought::Face(likeness) => some_like(scene, likeness, cards),
-    }
-}
-
-fn some_like(scene: &Scene, likeness: Likeness, cards: &Collection) -> bool
-    ensures { result ≡ list_any (face_value (scene_seen scene.now) likeness) cards.now }
+// The same, card by card.
+#[inline(never)]
+fn are_one_by_one(scene: &Scene, sought: Sought, cards: &Collection, any: bool) -> bool
+    ensures { result ≡ over any (sought_value (scene_seen scene.now) sought) cards.now }
 {
     for place in 0..cards.len() {
-        if is_like(scene, likeness, cards.at(place)) {
-            return true;
+        if is_as_sought(scene, sought, cards.at(place)) == any {
+            return any;
         }
     }
-    false
+    !any
 }
 
 /// How many of the cards are so.

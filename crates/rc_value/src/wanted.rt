@@ -1,18 +1,18 @@
 //! Values that cards are to have.
 ghost use Rattle.std.specs.Prelude.{◌≡◌, ◌+◌, ◌<◌, ◌≤◌, true, false, length, filter, option_map, slice_index_or, None, IfSome, if◌then◌else◌};
-ghost use Rattle.std.specs.List.{list_any, list_all};
+ghost use mathlib.Core.Bool.{beq};
 ghost use Rattle.rc_base.specs.Limits.{most_in_collection, most_in_list};
 ghost use Rattle.rc_sheet_spec.specs.Sheet.{card_var};
 ghost use Rattle.rc_ast.specs.Names.{who_seen};
 ghost use Rattle.rc_ast.specs.Expressions.{card_seen, coll_seen, test_seen};
 ghost use Rattle.rc_flow.specs.Reads.{reads_card};
 ghost use Rattle.rc_value.specs.Cards.{value_seen};
+ghost use Rattle.rc_value.specs.Over.{over};
 ghost use Rattle.rc_value.specs.Scene.{scene_seen};
 ghost use Rattle.rc_value.specs.Wanted.{compares, meets, wanted_value, turned};
 ghost use Rattle.rc_value.specs.Wanted.{IsFixed, IsFixedCollection, IsFixedOwner, IsWantedAt};
 
 use crate::Card;
-use crate::collection::Collection;
 use crate::hand::value_at_hand;
 use crate::leaves::{attr_of, value_in};
 use crate::scene::Scene;
@@ -64,80 +64,25 @@ pub(crate) fn is_met_in(row: &[Option<u16>], wanted: WantedValue, id: u16) -> bo
     is_met(wanted, value_in(row, id))
 }
 
-/// Whether all of the cards are so.
-pub(crate) fn all_as_wanted(scene: &Scene, wanted: WantedValue, cards: &Collection) -> bool
-    ensures { result ≡ list_all (wanted_value (scene_seen scene.now) wanted) cards.now }
-{
-    if let Some(ids) = cards.ids() {
-        if let Some(row) = scene.lookup.values(wanted.name) {
-            return all_met_in(row, wanted, ids);
-        }
-    }
-    all_one_by_one(scene, wanted, cards)
-}
-
-/// Whether all of the cards with these ids are so, by the row of the attribute's values.
+/// Whether one of the cards with these ids is so, or all of them, by the row of the attribute's values.
 #[inline(always)]
-pub fn all_met_in(row: &[Option<u16>], wanted: WantedValue, ids: &[u16]) -> bool
-    ensures { result ≡ list_all (λ id. meets wanted (slice_index_or row.now id None)) ids.now }
+pub fn are_met_in(row: &[Option<u16>], wanted: WantedValue, ids: &[u16], any: bool) -> bool
+    ensures { result ≡ over any (λ id. meets wanted (slice_index_or row.now id None)) ids.now }
 {
     for place in 0..ids.len() {
-        if !is_met_in(row, wanted, ids[place]) {
-            return false;
+        if settles(row, wanted, ids[place], any) {
+            return any;
         }
     }
-    true
+    !any
 }
 
-/// The same, card by card.
-#[inline(never)]
-pub fn all_one_by_one(scene: &Scene, wanted: WantedValue, cards: &Collection) -> bool
-    ensures { result ≡ list_all (wanted_value (scene_seen scene.now) wanted) cards.now }
-{
-    for place in 0..cards.len() {
-        if !is_as_wanted(scene, wanted, cards.at(place)) {
-            return false;
-        }
-    }
-    true
-}
-
-/// Whether one of the cards is so.
-pub(crate) fn some_as_wanted(scene: &Scene, wanted: WantedValue, cards: &Collection) -> bool
-    ensures { result ≡ list_any (wanted_value (scene_seen scene.now) wanted) cards.now }
-{
-    if let Some(ids) = cards.ids() {
-        if let Some(row) = scene.lookup.values(wanted.name) {
-            return some_met_in(row, wanted, ids);
-        }
-    }
-    some_one_by_one(scene, wanted, cards)
-}
-
-/// Whether one of the cards with these ids is so, by the row of the attribute's values.
+// Whether the card with this id settles it: it is so, where one is enough, or isn't, where all are to be.
 #[inline(always)]
-pub fn some_met_in(row: &[Option<u16>], wanted: WantedValue, ids: &[u16]) -> bool
-    ensures { result ≡ list_any (λ id. meets wanted (slice_index_or row.now id None)) ids.now }
+fn settles(row: &[Option<u16>], wanted: WantedValue, id: u16, any: bool) -> bool
+    ensures { result ≡ beq (meets wanted (slice_index_or row.now id None)) any }
 {
-    for place in 0..ids.len() {
-        if is_met_in(row, wanted, ids[place]) {
-            return true;
-        }
-    }
-    false
-}
-
-/// The same, card by card.
-#[inline(never)]
-pub fn some_one_by_one(scene: &Scene, wanted: WantedValue, cards: &Collection) -> bool
-    ensures { result ≡ list_any (wanted_value (scene_seen scene.now) wanted) cards.now }
-{
-    for place in 0..cards.len() {
-        if is_as_wanted(scene, wanted, cards.at(place)) {
-            return true;
-        }
-    }
-    false
+    is_so(wanted.equal == any, wanted.value, value_in(row, id))
 }
 
 /// How many of the cards with these ids are so, by the row of the attribute's values.

@@ -1,26 +1,27 @@
-use Rattle.std.proofs.Common.{◌≡◌, length, ◌++◌, ◌∷◌, [], map, rules, arith, refl, ap, ap₂, sym, ◌∙◌}
+use Rattle.std.proofs.Common.{◌≡◌, ◌+◌, length, ◌++◌, ◌∷◌, [], true, false, cond, drop, map, rules, arith, ap, ap₂, sym, subst, ◌∙◌}
 use Rattle.std.proofs.lemmas.Grind.{common_steps}
 use Rattle.std.proofs.lemmas.List.{drop_all, length-map, take_all}
-use Rattle.std.specs.List.{filter, list_all, list_any}
+use Rattle.std.specs.List.{filter}
 use Rattle.rc_base.specs.Numbers.{below}
 use Rattle.rc_deck.proofs.RangeLemmas.{below_length}
-use Rattle.rc_play_spec.specs.Value.{card_bound, player_bound, attr_of_any, cut, card_value, coll_value, colls_value, test_value}
-use Rattle.rc_ast.specs.Names.{loc_seen}
-use Rattle.rc_ast.specs.Expressions.{test_seen, card_seen, coll_seen, colls_seen, domain_seen}
+use Rattle.rc_play_spec.specs.Value.{card_bound, player_bound, attr_of_any, cut, card_value, coll_value, colls_value, test_value, tests_value}
+use Rattle.rc_ast.specs.Expressions.{test_seen, tests_seen, card_seen, coll_seen, colls_seen, domain_seen}
 use Rattle.rc_value.specs.Cards.{value_seen, values_seen}
 use Rattle.rc_value.specs.Scene.{scene_seen}
-use Rattle.rc_sheet_spec.specs.Sheet.{all_of, any_of, each_card, card_var, cards_in, filtered, group_var}
+use Rattle.rc_sheet_spec.specs.Sheet.{all_of, any_of, card_var, filtered}
 use Rattle.rc_play_spec.proofs.Bounds.{coll_within}
 use Rattle.rc_ast.proofs.ViewLemmas.{colls_seen-drop}
-use Rattle.rc_value.proofs.Steps.{players_are, all_stop, all_on, all_end, any_stop, any_on, any_end, player_here}
+use Rattle.rc_value.proofs.ComparingLemmas.{over_players}
+use Rattle.rc_value.proofs.OverLemmas.{over-map, over_end, over_none, over_on, over_stop}
+use Rattle.rc_value.proofs.Steps.{players_are, player_here}
 use Rattle.rc_value.proofs.Steps.{cut_behind, more_on, more_end, passing_on, passing_here, colls_here, tests_here}
-use Rattle.rc_value.proofs.Steps.{and_here, or_here, union_here, and_depth, or_depth, union_depth, inner_is, tests_on}
-use Rattle.rc_value.proofs.Steps.{tests_off, count_on, count_end}
+use Rattle.rc_value.proofs.Steps.{and_here, or_here, union_here, and_depth, or_depth, union_depth, inner_is, tests_over}
+use Rattle.rc_value.proofs.Steps.{count_on, count_end}
 use Rattle.rc_ast.specs.declared.expressions.CardExpr.TheFolds
-use Rattle.rc_value.proofs.WantedLemmas.{all_told, any_told, kept_told, face_is, face_turned, against_is}
-use Rattle.rc_value.proofs.WantedLemmas.{against_turned, value_is}
+use Rattle.rc_value.proofs.WantedLemmas.{over_told, kept_told, face_is, face_turned, against_is, against_turned}
 use Rattle.rc_flow.specs.Reads.{reads_card}
-use Rattle.rc_value.specs.Sought.{has_face, sought_value}
+use Rattle.rc_value.specs.Over.{over}
+use Rattle.rc_value.specs.Sought.{IsSought, sought_value}
 use Rattle.rc_value.proofs.+values.Goals as goal
 
 pub tests::test_of-returns-in-And : goal.tests::test_of-returns-in-And
@@ -30,26 +31,6 @@ tests::test_of-returns-in-And t c =
 pub tests::test_of-returns-in-Or : goal.tests::test_of-returns-in-Or
 tests::test_of-returns-in-Or t c =
     let e = or_here c.args.expr.now c.in-Or.tests c.in-Or.is in grind (arith, common_steps, e)
-
-pub tests::all_tests-loop-test-preserved : goal.tests::all_tests-loop-test-preserved
-tests::all_tests-loop-test-preserved t c =
-    let e = tests_here c.deref-test-items.result.now c.loop-test.test-index c.test-item.result c.loop-test-test.true c.test-item.is in
-    record {
-      fits = omega arith;
-      told =
-          tests_on (scene_seen c.args.scene.now) c.args.scope.now c.deref-test-items.result.now c.loop-test.test-index c.test-item.result c.test_of.result
-          c.loop-test-test.true c.test-item.is c.test_of.ensures c.if-not-test_of.false c.loop-test.invariant.told;
-    }
-
-pub tests::any_test-loop-test-preserved : goal.tests::any_test-loop-test-preserved
-tests::any_test-loop-test-preserved t c =
-    let e = tests_here c.deref-test-items.result.now c.loop-test.test-index c.test-item.result c.loop-test-test.true c.test-item.is in
-    record {
-      fits = omega arith;
-      told =
-          tests_off (scene_seen c.args.scene.now) c.args.scope.now c.deref-test-items.result.now c.loop-test.test-index c.test-item.result c.test_of.result
-          c.loop-test-test.true c.test-item.is c.test_of.ensures c.if-test_of.false c.loop-test.invariant.told;
-    }
 
 pub expressions::coll_of-returns : goal.expressions::coll_of-returns
 expressions::coll_of-returns t c =
@@ -88,106 +69,12 @@ expressions::add_parts-returns-clause-cards t c =
     ∙ ap (λ xs. cut (values_seen c.args.out.now.items ++ colls_value (scene_seen c.args.scene.now) c.args.scope.now
     (colls_seen xs))) c.deref-part-items.ensures.value
 
-pub tests::all_cards_asked-loop-place-preserved : goal.tests::all_cards_asked-loop-place-preserved
-tests::all_cards_asked-loop-place-preserved t c =
-    record {
-      told =
-          all_on (λ x. test_value (scene_seen c.args.scene.now) (c.args.scope.now ++ card_bound x ∷ []) (test_seen c.args.test.now))
-          c.args.cards.now c.loop-place.place (value_seen c.at.result) (omega (arith, c.len-place-end.ensures.count)) c.at.ensures
-          (inner_is (scene_seen c.args.scene.now) c.args.scope.now c.rebind.new.self (card_bound (value_seen c.at.result)) c.args.test.now c.test_of.result (c.rebind.ensures c.args.scope.now c.loop-place.invariant.inside.0 c.loop-place.invariant.inside.1) c.test_of.ensures ∙ c.if-not-test_of.false) c.loop-place.invariant.told;
-      inside = (card_bound (value_seen c.at.result), (c.rebind.ensures c.args.scope.now c.loop-place.invariant.inside.0 c.loop-place.invariant.inside.1));
-    }
-
-pub tests::all_cards_asked-returns-then-not-test_of : goal.tests::all_cards_asked-returns-then-not-test_of
-tests::all_cards_asked-returns-then-not-test_of t c =
-    all_stop (λ m. test_value (scene_seen c.args.scene.now) (c.args.scope.now ++ m ∷ []) (test_seen c.args.test.now)) (λ x. card_bound x)
-    c.args.cards.now c.loop-place.place (value_seen c.at.result) (omega (arith, c.len-place-end.ensures.count)) c.at.ensures
-    (inner_is (scene_seen c.args.scene.now) c.args.scope.now c.rebind.new.self (card_bound (value_seen c.at.result)) c.args.test.now c.test_of.result (c.rebind.ensures c.args.scope.now c.loop-place.invariant.inside.0 c.loop-place.invariant.inside.1) c.test_of.ensures ∙ c.if-not-test_of.true) c.loop-place.invariant.told
-
-pub tests::all_cards_asked-returns : goal.tests::all_cards_asked-returns
-tests::all_cards_asked-returns t c =
-    all_end (λ m. test_value (scene_seen c.args.scene.now) (c.args.scope.now ++ m ∷ []) (test_seen c.args.test.now)) (λ x. card_bound x)
-    c.args.cards.now c.loop-place.place (omega (arith, c.len-place-end.ensures.count)) c.loop-place.invariant.told
-
-pub tests::all_players_asked-loop-player-preserved : goal.tests::all_players_asked-loop-player-preserved
-tests::all_players_asked-loop-player-preserved t c =
-    let n = below_length c.args.scene.now.sheet.now.players in
-    record {
-      told =
-          all_on (λ x. test_value (scene_seen c.args.scene.now) (c.args.scope.now ++ player_bound x ∷ []) (test_seen c.args.test.now))
-          (below c.args.scene.now.sheet.now.players) c.loop-player.player c.loop-player.player (omega arith) (player_here c.args.scene.now.sheet.now.players c.loop-player.player c.loop-player-test.true)
-          (inner_is (scene_seen c.args.scene.now) c.args.scope.now c.rebind.new.self (player_bound c.loop-player.player) c.args.test.now c.test_of.result (c.rebind.ensures c.args.scope.now c.loop-player.invariant.inside.0 c.loop-player.invariant.inside.1) c.test_of.ensures ∙ c.if-not-test_of.false) c.loop-player.invariant.told;
-      inside = (player_bound c.loop-player.player, (c.rebind.ensures c.args.scope.now c.loop-player.invariant.inside.0 c.loop-player.invariant.inside.1));
-    }
-
-pub tests::all_players_asked-returns-then-not-test_of : goal.tests::all_players_asked-returns-then-not-test_of
-tests::all_players_asked-returns-then-not-test_of t c =
-    let n = below_length c.args.scene.now.sheet.now.players in
-    all_stop (λ m. test_value (scene_seen c.args.scene.now) (c.args.scope.now ++ m ∷ []) (test_seen c.args.test.now)) (λ x. player_bound x)
-    (below c.args.scene.now.sheet.now.players) c.loop-player.player c.loop-player.player (omega arith) (player_here c.args.scene.now.sheet.now.players c.loop-player.player c.loop-player-test.true)
-    (inner_is (scene_seen c.args.scene.now) c.args.scope.now c.rebind.new.self (player_bound c.loop-player.player) c.args.test.now c.test_of.result (c.rebind.ensures c.args.scope.now c.loop-player.invariant.inside.0 c.loop-player.invariant.inside.1) c.test_of.ensures ∙ c.if-not-test_of.true) c.loop-player.invariant.told
-    ∙ ap (λ k. list_all (λ m. test_value (scene_seen c.args.scene.now) (c.args.scope.now ++ m ∷ []) (test_seen c.args.test.now)) (map (λ x. player_bound x) (below k))) (sym (players_are c.args.scene.now))
-
-pub tests::all_players_asked-returns : goal.tests::all_players_asked-returns
-tests::all_players_asked-returns t c =
-    let n = below_length c.args.scene.now.sheet.now.players in
-    all_end (λ m. test_value (scene_seen c.args.scene.now) (c.args.scope.now ++ m ∷ []) (test_seen c.args.test.now)) (λ x. player_bound x)
-    (below c.args.scene.now.sheet.now.players) c.loop-player.player (omega arith) c.loop-player.invariant.told
-    ∙ ap (λ k. list_all (λ m. test_value (scene_seen c.args.scene.now) (c.args.scope.now ++ m ∷ []) (test_seen c.args.test.now)) (map (λ x. player_bound x) (below k))) (sym (players_are c.args.scene.now))
-
-pub tests::any_card_asked-loop-place-preserved : goal.tests::any_card_asked-loop-place-preserved
-tests::any_card_asked-loop-place-preserved t c =
-    record {
-      told =
-          any_on (λ x. test_value (scene_seen c.args.scene.now) (c.args.scope.now ++ card_bound x ∷ []) (test_seen c.args.test.now))
-          c.args.cards.now c.loop-place.place (value_seen c.at.result) (omega (arith, c.len-place-end.ensures.count)) c.at.ensures
-          (inner_is (scene_seen c.args.scene.now) c.args.scope.now c.rebind.new.self (card_bound (value_seen c.at.result)) c.args.test.now c.test_of.result (c.rebind.ensures c.args.scope.now c.loop-place.invariant.inside.0 c.loop-place.invariant.inside.1) c.test_of.ensures ∙ c.if-test_of.false) c.loop-place.invariant.told;
-      inside = (card_bound (value_seen c.at.result), (c.rebind.ensures c.args.scope.now c.loop-place.invariant.inside.0 c.loop-place.invariant.inside.1));
-    }
-
-pub tests::any_card_asked-returns-then-test_of : goal.tests::any_card_asked-returns-then-test_of
-tests::any_card_asked-returns-then-test_of t c =
-    any_stop (λ m. test_value (scene_seen c.args.scene.now) (c.args.scope.now ++ m ∷ []) (test_seen c.args.test.now)) (λ x. card_bound x)
-    c.args.cards.now c.loop-place.place (value_seen c.at.result) (omega (arith, c.len-place-end.ensures.count)) c.at.ensures
-    (inner_is (scene_seen c.args.scene.now) c.args.scope.now c.rebind.new.self (card_bound (value_seen c.at.result)) c.args.test.now c.test_of.result (c.rebind.ensures c.args.scope.now c.loop-place.invariant.inside.0 c.loop-place.invariant.inside.1) c.test_of.ensures ∙ c.if-test_of.true) c.loop-place.invariant.told
-
-pub tests::any_card_asked-returns : goal.tests::any_card_asked-returns
-tests::any_card_asked-returns t c =
-    any_end (λ m. test_value (scene_seen c.args.scene.now) (c.args.scope.now ++ m ∷ []) (test_seen c.args.test.now)) (λ x. card_bound x)
-    c.args.cards.now c.loop-place.place (omega (arith, c.len-place-end.ensures.count)) c.loop-place.invariant.told
-
-pub tests::any_player_asked-loop-player-preserved : goal.tests::any_player_asked-loop-player-preserved
-tests::any_player_asked-loop-player-preserved t c =
-    let n = below_length c.args.scene.now.sheet.now.players in
-    record {
-      told =
-          any_on (λ x. test_value (scene_seen c.args.scene.now) (c.args.scope.now ++ player_bound x ∷ []) (test_seen c.args.test.now))
-          (below c.args.scene.now.sheet.now.players) c.loop-player.player c.loop-player.player (omega arith) (player_here c.args.scene.now.sheet.now.players c.loop-player.player c.loop-player-test.true)
-          (inner_is (scene_seen c.args.scene.now) c.args.scope.now c.rebind.new.self (player_bound c.loop-player.player) c.args.test.now c.test_of.result (c.rebind.ensures c.args.scope.now c.loop-player.invariant.inside.0 c.loop-player.invariant.inside.1) c.test_of.ensures ∙ c.if-test_of.false) c.loop-player.invariant.told;
-      inside = (player_bound c.loop-player.player, (c.rebind.ensures c.args.scope.now c.loop-player.invariant.inside.0 c.loop-player.invariant.inside.1));
-    }
-
-pub tests::any_player_asked-returns-then-test_of : goal.tests::any_player_asked-returns-then-test_of
-tests::any_player_asked-returns-then-test_of t c =
-    let n = below_length c.args.scene.now.sheet.now.players in
-    any_stop (λ m. test_value (scene_seen c.args.scene.now) (c.args.scope.now ++ m ∷ []) (test_seen c.args.test.now)) (λ x. player_bound x)
-    (below c.args.scene.now.sheet.now.players) c.loop-player.player c.loop-player.player (omega arith) (player_here c.args.scene.now.sheet.now.players c.loop-player.player c.loop-player-test.true)
-    (inner_is (scene_seen c.args.scene.now) c.args.scope.now c.rebind.new.self (player_bound c.loop-player.player) c.args.test.now c.test_of.result (c.rebind.ensures c.args.scope.now c.loop-player.invariant.inside.0 c.loop-player.invariant.inside.1) c.test_of.ensures ∙ c.if-test_of.true) c.loop-player.invariant.told
-    ∙ ap (λ k. list_any (λ m. test_value (scene_seen c.args.scene.now) (c.args.scope.now ++ m ∷ []) (test_seen c.args.test.now)) (map (λ x. player_bound x) (below k))) (sym (players_are c.args.scene.now))
-
-pub tests::any_player_asked-returns : goal.tests::any_player_asked-returns
-tests::any_player_asked-returns t c =
-    let n = below_length c.args.scene.now.sheet.now.players in
-    any_end (λ m. test_value (scene_seen c.args.scene.now) (c.args.scope.now ++ m ∷ []) (test_seen c.args.test.now)) (λ x. player_bound x)
-    (below c.args.scene.now.sheet.now.players) c.loop-player.player (omega arith) c.loop-player.invariant.told
-    ∙ ap (λ k. list_any (λ m. test_value (scene_seen c.args.scene.now) (c.args.scope.now ++ m ∷ []) (test_seen c.args.test.now)) (map (λ x. player_bound x) (below k))) (sym (players_are c.args.scene.now))
-
-pub tests::test_of-all_tests-requires : goal.tests::test_of-all_tests-requires
-tests::test_of-all_tests-requires t c =
+pub tests::test_of-over_tests-requires : goal.tests::test_of-over_tests-requires
+tests::test_of-over_tests-requires t c =
     let e = and_depth c.args.expr.now c.in-And.tests c.in-And.is in (search (rules, TheFolds.the_lemmas), omega arith)
 
-pub tests::test_of-any_test-requires : goal.tests::test_of-any_test-requires
-tests::test_of-any_test-requires t c =
+pub tests::test_of-over_tests-requires-in-Or : goal.tests::test_of-over_tests-requires-in-Or
+tests::test_of-over_tests-requires-in-Or t c =
     let e = or_depth c.args.expr.now c.in-Or.tests c.in-Or.is in (search (rules, TheFolds.the_lemmas), omega arith)
 
 pub expressions::add-add_parts-requires : goal.expressions::add-add_parts-requires
@@ -223,14 +110,6 @@ expressions::add_asked-returns-clause-cards t c =
     (drop_all c.loop-place.place c.args.all.now (omega (arith, c.len-place-end.ensures.count))))
     c.loop-place.invariant.told
 
-pub tests::all_cards-returns-in-Some : goal.tests::all_cards-returns-in-Some
-tests::all_cards-returns-in-Some t c =
-    c.all_as_sought.ensures ∙ all_told (scene_seen c.args.scene.now) c.args.scope.now (test_seen c.args.test.now) (sought_value (scene_seen c.args.scene.now) c.in-Some.sought) c.args.cards.now c.in-Some.ensures
-
-pub tests::any_card-returns-in-Some : goal.tests::any_card-returns-in-Some
-tests::any_card-returns-in-Some t c =
-    c.some_as_sought.ensures ∙ any_told (scene_seen c.args.scene.now) c.args.scope.now (test_seen c.args.test.now) (sought_value (scene_seen c.args.scene.now) c.in-Some.sought) c.args.cards.now c.in-Some.ensures
-
 pub expressions::add_passing-returns-in-Some-clause-cards : goal.expressions::add_passing-returns-in-Some-clause-cards
 expressions::add_passing-returns-in-Some-clause-cards t c =
     c.add_as_sought.ensures.cards
@@ -239,113 +118,11 @@ expressions::add_passing-returns-in-Some-clause-cards t c =
     (sought_value (scene_seen c.args.scene.now) c.in-Some.sought) c.args.all.now c.in-Some.ensures
     )
 
-pub tests::wanted_against-returns-then-is_against : goal.tests::wanted_against-returns-then-is_against
-tests::wanted_against-returns-then-is_against t c =
-    against_is (scene_seen c.args.scene.now) c.args.scope.now (test_seen c.args.test.now) (card_seen c.in-EqAttr.a.value) (card_seen c.in-EqAttr.b.value) c.in-EqAttr.name c.in-EqAttr.other c.value_once.result
-    (ap test_seen c.in-EqAttr.is)
-    (sym (ap card_seen c.deref.ensures) ∙ c.is_against.ensures.variable c.if-is_against.true ∙ ap card_var c.len.ensures)
-    (ap₂ (λ k e. reads_card k (card_seen e)) (sym c.len.ensures) (sym c.deref-in-EqAttr.ensures) ∙ c.is_against.ensures.unread c.if-is_against.true)
-    (c.value_once.ensures ∙ ap (λ e. attr_of_any (scene_seen c.args.scene.now) c.in-EqAttr.other (card_value (scene_seen c.args.scene.now) (c.args.scope.now ++ player_bound 0 ∷ []) (card_seen e))) c.deref-then-is_against.ensures)
-
-pub tests::wanted_against-returns-then-is_against-2 : goal.tests::wanted_against-returns-then-is_against-2
-tests::wanted_against-returns-then-is_against-2 t c =
-    against_turned (scene_seen c.args.scene.now) c.args.scope.now (test_seen c.args.test.now) (card_seen c.in-EqAttr.a.value) (card_seen c.in-EqAttr.b.value) c.in-EqAttr.name c.in-EqAttr.other c.value_once-then-is_against-2.result
-    (ap test_seen c.in-EqAttr.is)
-    (sym (ap card_seen c.deref-in-EqAttr-2.ensures) ∙ c.is_against-in-EqAttr.ensures.variable c.if-is_against-2.true ∙ ap card_var c.len-in-EqAttr.ensures)
-    (ap₂ (λ k e. reads_card k (card_seen e)) (sym c.len-in-EqAttr.ensures) (sym c.deref-in-EqAttr-3.ensures) ∙ c.is_against-in-EqAttr.ensures.unread c.if-is_against-2.true)
-    (c.value_once-then-is_against-2.ensures ∙ ap (λ e. attr_of_any (scene_seen c.args.scene.now) c.in-EqAttr.name (card_value (scene_seen c.args.scene.now) (c.args.scope.now ++ player_bound 0 ∷ []) (card_seen e))) c.deref-then-is_against-2.ensures)
-
-pub tests::face_against-returns-then-is_against : goal.tests::face_against-returns-then-is_against
-tests::face_against-returns-then-is_against t c = λ x.
-    face_is (scene_seen c.args.scene.now) c.args.scope.now (test_seen c.args.test.now) (card_seen c.in-EqCard.a.value) (card_seen c.in-EqCard.b.value) _
-    (ap test_seen c.in-EqCard.is)
-    (sym (ap card_seen c.deref.ensures) ∙ c.is_against.ensures.variable c.if-is_against.true ∙ ap card_var c.len.ensures)
-    (ap₂ (λ k e. reads_card k (card_seen e)) (sym c.len.ensures) (sym c.deref-in-EqCard.ensures) ∙ c.is_against.ensures.unread c.if-is_against.true)
-    refl x
-    ∙ sym (ap (λ f. f x) (c.like_once.ensures ∙ ap (λ e. has_face (scene_seen c.args.scene.now) (card_value (scene_seen c.args.scene.now) (c.args.scope.now ++ player_bound 0 ∷ []) (card_seen e))) c.deref-then-is_against.ensures))
-
-pub tests::face_against-returns-then-is_against-2 : goal.tests::face_against-returns-then-is_against-2
-tests::face_against-returns-then-is_against-2 t c = λ x.
-    face_turned (scene_seen c.args.scene.now) c.args.scope.now (test_seen c.args.test.now) (card_seen c.in-EqCard.a.value) (card_seen c.in-EqCard.b.value) _
-    (ap test_seen c.in-EqCard.is)
-    (sym (ap card_seen c.deref-in-EqCard-2.ensures) ∙ c.is_against-in-EqCard.ensures.variable c.if-is_against-2.true ∙ ap card_var c.len-in-EqCard.ensures)
-    (ap₂ (λ k e. reads_card k (card_seen e)) (sym c.len-in-EqCard.ensures) (sym c.deref-in-EqCard-3.ensures) ∙ c.is_against-in-EqCard.ensures.unread c.if-is_against-2.true)
-    refl x
-    ∙ sym (ap (λ f. f x) (c.like_once-then-is_against-2.ensures ∙ ap (λ e. has_face (scene_seen c.args.scene.now) (card_value (scene_seen c.args.scene.now) (c.args.scope.now ++ player_bound 0 ∷ []) (card_seen e))) c.deref-then-is_against-2.ensures))
-
-pub tests::wanted_of-returns-then-is_variable : goal.tests::wanted_of-returns-then-is_variable
-tests::wanted_of-returns-then-is_variable t c =
-    value_is (scene_seen c.args.scene.now) c.args.scope.now (test_seen c.args.test.now) (card_seen c.in-Is.card.value) c.in-Is.name c.in-Is.value
-    (ap test_seen c.in-Is.is)
-    (sym (ap card_seen c.deref.ensures) ∙ c.is_variable.ensures c.if-is_variable.true ∙ ap card_var c.len.ensures)
-
 pub expressions::value_asked-returns : goal.expressions::value_asked-returns
 expressions::value_asked-returns t c = c.attr_of_id.ensures _ c.id_now.ensures
 
 pub expressions::points_of-returns : goal.expressions::points_of-returns
 expressions::points_of-returns t c = let e = c.worth_of_id.ensures _ c.id_now.ensures in grind (arith, common_steps, e)
-
-pub tests::over_built-returns-in-Coll : goal.tests::over_built-returns-in-Coll
-tests::over_built-returns-in-Coll t c =
-    let e : test_seen c.args.expr.now ≡ all_of (each_card (coll_seen c.in-Coll.cards)) c.in-All.field-1 (test_seen c.in-All.inner.value) =
-    ap test_seen c.in-All.is ∙ ap (λ d. all_of (domain_seen d) c.in-All.field-1 (test_seen c.in-All.inner.value)) c.in-Coll.is in
-    let b : c.of_cards.result ≡ coll_value (scene_seen c.args.scene.now) c.args.scope.now (coll_seen c.in-Coll.cards) =
-    c.of_cards.ensures ∙ ap values_seen c.as_slice.ensures.value ∙ c.coll_of.ensures in
-    c.all_cards.ensures
-    ∙ ap (λ x. list_all (λ m. test_value (scene_seen c.args.scene.now) (c.args.scope.now ++ m ∷ []) (test_seen x)) (map (λ k. card_bound k) c.of_cards.result)) c.deref.ensures
-    ∙ ap (λ xs. list_all (λ m. test_value (scene_seen c.args.scene.now) (c.args.scope.now ++ m ∷ []) (test_seen c.in-All.inner.value)) (map (λ k. card_bound k) xs)) b
-    ∙ ap (test_value (scene_seen c.args.scene.now) c.args.scope.now) (sym e)
-
-pub tests::over_built-returns-in-Coll-domain : goal.tests::over_built-returns-in-Coll-domain
-tests::over_built-returns-in-Coll-domain t c =
-    let e : test_seen c.args.expr.now ≡ any_of (each_card (coll_seen c.in-Coll-domain.cards)) c.in-Any.field-1 (test_seen c.in-Any.inner.value) =
-    ap test_seen c.in-Any.is ∙ ap (λ d. any_of (domain_seen d) c.in-Any.field-1 (test_seen c.in-Any.inner.value)) c.in-Coll-domain.is in
-    let b : c.of_cards-in-Coll-domain.result ≡ coll_value (scene_seen c.args.scene.now) c.args.scope.now (coll_seen c.in-Coll-domain.cards) =
-    c.of_cards-in-Coll-domain.ensures ∙ ap values_seen c.as_slice-in-Coll-domain.ensures.value ∙ c.coll_of-in-Coll-domain.ensures in
-    c.any_card.ensures
-    ∙ ap (λ x. list_any (λ m. test_value (scene_seen c.args.scene.now) (c.args.scope.now ++ m ∷ []) (test_seen x)) (map (λ k. card_bound k) c.of_cards-in-Coll-domain.result)) c.deref-in-Coll-domain.ensures
-    ∙ ap (λ xs. list_any (λ m. test_value (scene_seen c.args.scene.now) (c.args.scope.now ++ m ∷ []) (test_seen c.in-Any.inner.value)) (map (λ k. card_bound k) xs)) b
-    ∙ ap (test_value (scene_seen c.args.scene.now) c.args.scope.now) (sym e)
-
-pub tests::over_cards-returns-in-Loc : goal.tests::over_cards-returns-in-Loc
-tests::over_cards-returns-in-Loc t c =
-    let e : test_seen c.args.expr.now ≡ all_of (each_card (cards_in (loc_seen c.in-Loc.loc))) c.in-All.field-1 (test_seen c.in-All.inner.value) =
-    ap test_seen c.in-All.is ∙ ap (λ d. all_of (domain_seen d) c.in-All.field-1 (test_seen c.in-All.inner.value)) c.in-Coll.is
-    ∙ ap (λ k. all_of (each_card (coll_seen k)) c.in-All.field-1 (test_seen c.in-All.inner.value)) c.in-Loc.is in
-    c.all_cards.ensures
-    ∙ ap (λ x. list_all (λ m. test_value (scene_seen c.args.scene.now) (c.args.scope.now ++ m ∷ []) (test_seen x)) (map (λ k. card_bound k) c.cards_of.result)) c.deref.ensures
-    ∙ ap (λ xs. list_all (λ m. test_value (scene_seen c.args.scene.now) (c.args.scope.now ++ m ∷ []) (test_seen c.in-All.inner.value)) (map (λ k. card_bound k) xs)) c.cards_of.ensures
-    ∙ ap (test_value (scene_seen c.args.scene.now) c.args.scope.now) (sym e)
-
-pub tests::over_cards-returns-in-Var : goal.tests::over_cards-returns-in-Var
-tests::over_cards-returns-in-Var t c =
-    let e : test_seen c.args.expr.now ≡ all_of (each_card (group_var c.in-Var.var)) c.in-All.field-1 (test_seen c.in-All.inner.value) =
-    ap test_seen c.in-All.is ∙ ap (λ d. all_of (domain_seen d) c.in-All.field-1 (test_seen c.in-All.inner.value)) c.in-Coll.is
-    ∙ ap (λ k. all_of (each_card (coll_seen k)) c.in-All.field-1 (test_seen c.in-All.inner.value)) c.in-Var.is in
-    c.all_cards-in-Var.ensures
-    ∙ ap (λ x. list_all (λ m. test_value (scene_seen c.args.scene.now) (c.args.scope.now ++ m ∷ []) (test_seen x)) (map (λ k. card_bound k) c.group.result)) c.deref-in-Var.ensures
-    ∙ ap (λ xs. list_all (λ m. test_value (scene_seen c.args.scene.now) (c.args.scope.now ++ m ∷ []) (test_seen c.in-All.inner.value)) (map (λ k. card_bound k) xs)) c.group.ensures
-    ∙ ap (test_value (scene_seen c.args.scene.now) c.args.scope.now) (sym e)
-
-pub tests::over_cards-returns-in-Loc-cards : goal.tests::over_cards-returns-in-Loc-cards
-tests::over_cards-returns-in-Loc-cards t c =
-    let e : test_seen c.args.expr.now ≡ any_of (each_card (cards_in (loc_seen c.in-Loc-cards.loc))) c.in-Any.field-1 (test_seen c.in-Any.inner.value) =
-    ap test_seen c.in-Any.is ∙ ap (λ d. any_of (domain_seen d) c.in-Any.field-1 (test_seen c.in-Any.inner.value)) c.in-Coll-domain.is
-    ∙ ap (λ k. any_of (each_card (coll_seen k)) c.in-Any.field-1 (test_seen c.in-Any.inner.value)) c.in-Loc-cards.is in
-    c.any_card.ensures
-    ∙ ap (λ x. list_any (λ m. test_value (scene_seen c.args.scene.now) (c.args.scope.now ++ m ∷ []) (test_seen x)) (map (λ k. card_bound k) c.cards_of-in-Loc-cards.result)) c.deref-in-Loc-cards.ensures
-    ∙ ap (λ xs. list_any (λ m. test_value (scene_seen c.args.scene.now) (c.args.scope.now ++ m ∷ []) (test_seen c.in-Any.inner.value)) (map (λ k. card_bound k) xs)) c.cards_of-in-Loc-cards.ensures
-    ∙ ap (test_value (scene_seen c.args.scene.now) c.args.scope.now) (sym e)
-
-pub tests::over_cards-returns-in-Var-cards : goal.tests::over_cards-returns-in-Var-cards
-tests::over_cards-returns-in-Var-cards t c =
-    let e : test_seen c.args.expr.now ≡ any_of (each_card (group_var c.in-Var-cards.var)) c.in-Any.field-1 (test_seen c.in-Any.inner.value) =
-    ap test_seen c.in-Any.is ∙ ap (λ d. any_of (domain_seen d) c.in-Any.field-1 (test_seen c.in-Any.inner.value)) c.in-Coll-domain.is
-    ∙ ap (λ k. any_of (each_card (coll_seen k)) c.in-Any.field-1 (test_seen c.in-Any.inner.value)) c.in-Var-cards.is in
-    c.any_card-in-Var-cards.ensures
-    ∙ ap (λ x. list_any (λ m. test_value (scene_seen c.args.scene.now) (c.args.scope.now ++ m ∷ []) (test_seen x)) (map (λ k. card_bound k) c.group-in-Var-cards.result)) c.deref-in-Var-cards.ensures
-    ∙ ap (λ xs. list_any (λ m. test_value (scene_seen c.args.scene.now) (c.args.scope.now ++ m ∷ []) (test_seen c.in-Any.inner.value)) (map (λ k. card_bound k) xs)) c.group-in-Var-cards.ensures
-    ∙ ap (test_value (scene_seen c.args.scene.now) c.args.scope.now) (sym e)
 
 pub expressions::count_of-returns-in-Union-clause-count : goal.expressions::count_of-returns-in-Union-clause-count
 expressions::count_of-returns-in-Union-clause-count t c =
@@ -382,3 +159,154 @@ expressions::count_filtered-returns-in-Some-sought_of-clause-count t c =
     ∙ ap (λ xs. length (filter (λ x. test_value (scene_seen c.args.scene.now) (c.args.scope.now ++ card_bound x ∷ []) (test_seen told)) xs)) c.in-Some.ensures
     ∙ ap₂ (λ k u. length (coll_value (scene_seen c.args.scene.now) c.args.scope.now (filtered (coll_seen k) c.in-Filter.field-1 (test_seen u)))) c.deref.ensures c.deref-in-Some.ensures
     ∙ ap (λ k. length (coll_value (scene_seen c.args.scene.now) c.args.scope.now k)) (sym (ap coll_seen c.in-Filter.is))
+
+pub tests::over_tests-loop-test-preserved : goal.tests::over_tests-loop-test-preserved
+tests::over_tests-loop-test-preserved t c =
+    let e = tests_here c.deref-test-items.result.now c.loop-test.test-index c.test-item.result c.loop-test-test.true c.test-item.is in
+    record {
+      fits = omega arith;
+      told =
+          ap (λ b. cond b c.args.any (over c.args.any (λ b. b) (tests_value (scene_seen c.args.scene.now) c.args.scope.now (tests_seen (drop (c.loop-test.test-index + 1) c.deref-test-items.result.now))))) (sym c.if-test_of-any.false)
+          ∙ tests_over (scene_seen c.args.scene.now) c.args.scope.now c.deref-test-items.result.now c.loop-test.test-index c.test-item.result c.args.any c.test_of.result _
+          c.loop-test-test.true c.test-item.is c.test_of.ensures c.loop-test.invariant.told;
+    }
+
+pub tests::over_tests-returns-then-test_of-any : goal.tests::over_tests-returns-then-test_of-any
+tests::over_tests-returns-then-test_of-any t c =
+    ap (λ b. cond b c.args.any (over c.args.any (λ b. b) (tests_value (scene_seen c.args.scene.now) c.args.scope.now (tests_seen (drop (c.loop-test.test-index + 1) c.deref-test-items.result.now))))) (sym c.if-test_of-any.true)
+    ∙ tests_over (scene_seen c.args.scene.now) c.args.scope.now c.deref-test-items.result.now c.loop-test.test-index c.test-item.result c.args.any c.test_of.result _
+    c.loop-test-test.true c.test-item.is c.test_of.ensures c.loop-test.invariant.told
+    ∙ ap (λ xs. over c.args.any (λ b. b) (tests_value (scene_seen c.args.scene.now) c.args.scope.now (tests_seen xs))) c.deref-test-items.ensures.value
+
+pub tests::over_tests-returns : goal.tests::over_tests-returns
+tests::over_tests-returns t c =
+    over_none c.args.any (λ b. b)
+    ∙ ap (λ xs. over c.args.any (λ b. b) (tests_value (scene_seen c.args.scene.now) c.args.scope.now (tests_seen xs))) (sym (drop_all c.loop-test.test-index c.deref-test-items.result.now c.loop-test-test.false))
+    ∙ c.loop-test.invariant.told
+    ∙ ap (λ xs. over c.args.any (λ b. b) (tests_value (scene_seen c.args.scene.now) c.args.scope.now (tests_seen xs))) c.deref-test-items.ensures.value
+
+pub tests::over_players_asked-loop-player-preserved : goal.tests::over_players_asked-loop-player-preserved
+tests::over_players_asked-loop-player-preserved t c =
+    let n = below_length c.args.scene.now.sheet.now.players in
+    record {
+      told =
+          over_on c.args.any (λ x. test_value (scene_seen c.args.scene.now) (c.args.scope.now ++ player_bound x ∷ []) (test_seen c.args.test.now)) (below c.args.scene.now.sheet.now.players) c.loop-player.player c.loop-player.player c.test_of.result _ (omega arith) (player_here c.args.scene.now.sheet.now.players c.loop-player.player c.loop-player-test.true)
+          (sym (inner_is (scene_seen c.args.scene.now) c.args.scope.now c.rebind.new.self (player_bound c.loop-player.player) c.args.test.now c.test_of.result (c.rebind.ensures c.args.scope.now c.loop-player.invariant.inside.0 c.loop-player.invariant.inside.1) c.test_of.ensures)) c.if-test_of-any.false c.loop-player.invariant.told;
+      inside = (player_bound c.loop-player.player, (c.rebind.ensures c.args.scope.now c.loop-player.invariant.inside.0 c.loop-player.invariant.inside.1));
+    }
+
+pub tests::over_players_asked-returns-then-test_of-any : goal.tests::over_players_asked-returns-then-test_of-any
+tests::over_players_asked-returns-then-test_of-any t c =
+    let n = below_length c.args.scene.now.sheet.now.players in
+    over_stop c.args.any (λ x. test_value (scene_seen c.args.scene.now) (c.args.scope.now ++ player_bound x ∷ []) (test_seen c.args.test.now)) (below c.args.scene.now.sheet.now.players) c.loop-player.player c.loop-player.player c.test_of.result _ (omega arith) (player_here c.args.scene.now.sheet.now.players c.loop-player.player c.loop-player-test.true)
+    (sym (inner_is (scene_seen c.args.scene.now) c.args.scope.now c.rebind.new.self (player_bound c.loop-player.player) c.args.test.now c.test_of.result (c.rebind.ensures c.args.scope.now c.loop-player.invariant.inside.0 c.loop-player.invariant.inside.1) c.test_of.ensures)) c.if-test_of-any.true c.loop-player.invariant.told
+    ∙ sym (over-map c.args.any (λ m. test_value (scene_seen c.args.scene.now) (c.args.scope.now ++ m ∷ []) (test_seen c.args.test.now)) (λ x. player_bound x) (below c.args.scene.now.sheet.now.players))
+    ∙ ap (λ k. over c.args.any (λ m. test_value (scene_seen c.args.scene.now) (c.args.scope.now ++ m ∷ []) (test_seen c.args.test.now)) (map (λ x. player_bound x) (below k))) (sym (players_are c.args.scene.now))
+
+pub tests::over_players_asked-returns : goal.tests::over_players_asked-returns
+tests::over_players_asked-returns t c =
+    let n = below_length c.args.scene.now.sheet.now.players in
+    over_end c.args.any (λ x. test_value (scene_seen c.args.scene.now) (c.args.scope.now ++ player_bound x ∷ []) (test_seen c.args.test.now)) (below c.args.scene.now.sheet.now.players) c.loop-player.player _ (omega arith) c.loop-player.invariant.told
+    ∙ sym (over-map c.args.any (λ m. test_value (scene_seen c.args.scene.now) (c.args.scope.now ++ m ∷ []) (test_seen c.args.test.now)) (λ x. player_bound x) (below c.args.scene.now.sheet.now.players))
+    ∙ ap (λ k. over c.args.any (λ m. test_value (scene_seen c.args.scene.now) (c.args.scope.now ++ m ∷ []) (test_seen c.args.test.now)) (map (λ x. player_bound x) (below k))) (sym (players_are c.args.scene.now))
+
+pub tests::over_list_asked-loop-place-preserved : goal.tests::over_list_asked-loop-place-preserved
+tests::over_list_asked-loop-place-preserved t c =
+    record {
+      told =
+          over_on c.args.any (λ x. test_value (scene_seen c.args.scene.now) (c.args.scope.now ++ card_bound x ∷ []) (test_seen c.args.test.now)) c.args.cards.now c.loop-place.place (value_seen c.at.result) c.test_of.result _ (omega (arith, c.len-place-end.ensures.count)) c.at.ensures
+          (sym (inner_is (scene_seen c.args.scene.now) c.args.scope.now c.rebind.new.self (card_bound (value_seen c.at.result)) c.args.test.now c.test_of.result (c.rebind.ensures c.args.scope.now c.loop-place.invariant.inside.0 c.loop-place.invariant.inside.1) c.test_of.ensures)) c.if-test_of-any.false c.loop-place.invariant.told;
+      inside = (card_bound (value_seen c.at.result), (c.rebind.ensures c.args.scope.now c.loop-place.invariant.inside.0 c.loop-place.invariant.inside.1));
+    }
+
+pub tests::over_list_asked-returns-then-test_of-any : goal.tests::over_list_asked-returns-then-test_of-any
+tests::over_list_asked-returns-then-test_of-any t c =
+    over_stop c.args.any (λ x. test_value (scene_seen c.args.scene.now) (c.args.scope.now ++ card_bound x ∷ []) (test_seen c.args.test.now)) c.args.cards.now c.loop-place.place (value_seen c.at.result) c.test_of.result _ (omega (arith, c.len-place-end.ensures.count)) c.at.ensures
+    (sym (inner_is (scene_seen c.args.scene.now) c.args.scope.now c.rebind.new.self (card_bound (value_seen c.at.result)) c.args.test.now c.test_of.result (c.rebind.ensures c.args.scope.now c.loop-place.invariant.inside.0 c.loop-place.invariant.inside.1) c.test_of.ensures)) c.if-test_of-any.true c.loop-place.invariant.told
+    ∙ sym (over-map c.args.any (λ m. test_value (scene_seen c.args.scene.now) (c.args.scope.now ++ m ∷ []) (test_seen c.args.test.now)) (λ x. card_bound x) c.args.cards.now)
+
+pub tests::over_list_asked-returns : goal.tests::over_list_asked-returns
+tests::over_list_asked-returns t c =
+    over_end c.args.any (λ x. test_value (scene_seen c.args.scene.now) (c.args.scope.now ++ card_bound x ∷ []) (test_seen c.args.test.now)) c.args.cards.now c.loop-place.place _ (omega (arith, c.len-place-end.ensures.count)) c.loop-place.invariant.told
+    ∙ sym (over-map c.args.any (λ m. test_value (scene_seen c.args.scene.now) (c.args.scope.now ++ m ∷ []) (test_seen c.args.test.now)) (λ x. card_bound x) c.args.cards.now)
+
+pub tests::over_players-returns-in-Some : goal.tests::over_players-returns-in-Some
+tests::over_players-returns-in-Some t c =
+    c.over_suited.ensures
+    ∙ over_players (scene_seen c.args.scene.now) c.args.scope.now c.args.any (test_seen c.args.test.now) c.in-Some.suited (below (scene_seen c.args.scene.now).known.sheet.players) c.in-Some.ensures
+
+pub tests::over_list-returns-in-Some : goal.tests::over_list-returns-in-Some
+tests::over_list-returns-in-Some t c =
+    c.are_as_sought.ensures ∙ over_told (scene_seen c.args.scene.now) c.args.scope.now c.args.any (test_seen c.args.test.now) (sought_value (scene_seen c.args.scene.now) c.in-Some.sought) c.args.cards.now c.in-Some.ensures
+
+pub tests::sought_asked-returns-then-is_against : goal.tests::sought_asked-returns-then-is_against
+tests::sought_asked-returns-then-is_against t c =
+    subst (IsSought (scene_seen c.args.scene.now) c.args.scope.now (test_seen c.args.test.now)) (sym c.same_value.ensures) (
+    against_is (scene_seen c.args.scene.now) c.args.scope.now (test_seen c.args.test.now) (card_seen c.in-EqAttr.a.value) (card_seen c.in-EqAttr.b.value) c.in-EqAttr.name c.in-EqAttr.other _
+    (ap test_seen c.in-EqAttr.is)
+    (sym (ap card_seen c.deref.ensures) ∙ c.is_against.ensures.variable c.if-is_against.true ∙ ap card_var c.len.ensures)
+    (ap₂ (λ k e. reads_card k (card_seen e)) (sym c.len.ensures) (sym c.deref-in-EqAttr.ensures) ∙ c.is_against.ensures.unread c.if-is_against.true)
+    (c.value_of.ensures ∙ ap₂ (λ v e. attr_of_any (scene_seen c.args.scene.now) c.in-EqAttr.other (card_value (scene_seen c.args.scene.now) v (card_seen e))) c.requires.inside c.deref-then-is_against.ensures)
+    )
+
+pub tests::sought_asked-returns-then-is_against-2 : goal.tests::sought_asked-returns-then-is_against-2
+tests::sought_asked-returns-then-is_against-2 t c =
+    subst (IsSought (scene_seen c.args.scene.now) c.args.scope.now (test_seen c.args.test.now)) (sym c.same_value-then-is_against-2.ensures) (
+    against_turned (scene_seen c.args.scene.now) c.args.scope.now (test_seen c.args.test.now) (card_seen c.in-EqAttr.a.value) (card_seen c.in-EqAttr.b.value) c.in-EqAttr.name c.in-EqAttr.other _
+    (ap test_seen c.in-EqAttr.is)
+    (sym (ap card_seen c.deref-in-EqAttr-2.ensures) ∙ c.is_against-in-EqAttr.ensures.variable c.if-is_against-2.true ∙ ap card_var c.len-in-EqAttr.ensures)
+    (ap₂ (λ k e. reads_card k (card_seen e)) (sym c.len-in-EqAttr.ensures) (sym c.deref-in-EqAttr-3.ensures) ∙ c.is_against-in-EqAttr.ensures.unread c.if-is_against-2.true)
+    (c.value_of-then-is_against-2.ensures ∙ ap₂ (λ v e. attr_of_any (scene_seen c.args.scene.now) c.in-EqAttr.name (card_value (scene_seen c.args.scene.now) v (card_seen e))) c.requires.inside c.deref-then-is_against-2.ensures)
+    )
+
+pub tests::sought_asked-returns-then-is_against-3 : goal.tests::sought_asked-returns-then-is_against-3
+tests::sought_asked-returns-then-is_against-3 t c =
+    subst (IsSought (scene_seen c.args.scene.now) c.args.scope.now (test_seen c.args.test.now)) (sym c.same_face.ensures) (
+    face_is (scene_seen c.args.scene.now) c.args.scope.now (test_seen c.args.test.now) (card_seen c.in-EqCard.a.value) (card_seen c.in-EqCard.b.value) _
+    (ap test_seen c.in-EqCard.is)
+    (sym (ap card_seen c.deref-in-EqCard.ensures) ∙ c.is_against-in-EqCard.ensures.variable c.if-is_against-3.true ∙ ap card_var c.len-in-EqCard.ensures)
+    (ap₂ (λ k e. reads_card k (card_seen e)) (sym c.len-in-EqCard.ensures) (sym c.deref-in-EqCard-2.ensures) ∙ c.is_against-in-EqCard.ensures.unread c.if-is_against-3.true)
+    (c.card_of.ensures ∙ ap₂ (λ v e. card_value (scene_seen c.args.scene.now) v (card_seen e)) c.requires.inside c.deref-then-is_against-3.ensures)
+    )
+
+pub tests::sought_asked-returns-then-is_against-4 : goal.tests::sought_asked-returns-then-is_against-4
+tests::sought_asked-returns-then-is_against-4 t c =
+    subst (IsSought (scene_seen c.args.scene.now) c.args.scope.now (test_seen c.args.test.now)) (sym c.same_face-then-is_against-4.ensures) (
+    face_turned (scene_seen c.args.scene.now) c.args.scope.now (test_seen c.args.test.now) (card_seen c.in-EqCard.a.value) (card_seen c.in-EqCard.b.value) _
+    (ap test_seen c.in-EqCard.is)
+    (sym (ap card_seen c.deref-in-EqCard-3.ensures) ∙ c.is_against-in-EqCard-2.ensures.variable c.if-is_against-4.true ∙ ap card_var c.len-in-EqCard-2.ensures)
+    (ap₂ (λ k e. reads_card k (card_seen e)) (sym c.len-in-EqCard-2.ensures) (sym c.deref-in-EqCard-4.ensures) ∙ c.is_against-in-EqCard-2.ensures.unread c.if-is_against-4.true)
+    (c.card_of-then-is_against-4.ensures ∙ ap₂ (λ v e. card_value (scene_seen c.args.scene.now) v (card_seen e)) c.requires.inside c.deref-then-is_against-4.ensures)
+    )
+
+pub tests::over_cards-returns-in-Some : goal.tests::over_cards-returns-in-Some
+tests::over_cards-returns-in-Some t c =
+    c.over_list.ensures
+    ∙ ap (λ x. over false (λ m. test_value (scene_seen c.args.scene.now) (c.args.scope.now ++ m ∷ []) (test_seen x)) (map (λ k. card_bound k) c.in-Some.cards)) c.deref.ensures
+    ∙ ap (over false (λ m. test_value (scene_seen c.args.scene.now) (c.args.scope.now ++ m ∷ []) (test_seen c.in-All.inner.value))) c.in-Some.ensures
+    ∙ ap (test_value (scene_seen c.args.scene.now) c.args.scope.now) (sym (ap test_seen c.in-All.is))
+
+pub tests::over_cards-returns-in-Some-bare_members : goal.tests::over_cards-returns-in-Some-bare_members
+tests::over_cards-returns-in-Some-bare_members t c =
+    c.over_list-in-Some-bare_members.ensures
+    ∙ ap (λ x. over true (λ m. test_value (scene_seen c.args.scene.now) (c.args.scope.now ++ m ∷ []) (test_seen x)) (map (λ k. card_bound k) c.in-Some-bare_members.cards)) c.deref-in-Some-bare_members.ensures
+    ∙ ap (over true (λ m. test_value (scene_seen c.args.scene.now) (c.args.scope.now ++ m ∷ []) (test_seen c.in-Any.inner.value))) c.in-Some-bare_members.ensures
+    ∙ ap (test_value (scene_seen c.args.scene.now) c.args.scope.now) (sym (ap test_seen c.in-Any.is))
+
+pub tests::over_built-returns-in-Coll : goal.tests::over_built-returns-in-Coll
+tests::over_built-returns-in-Coll t c =
+    let b : c.of_cards.result ≡ coll_value (scene_seen c.args.scene.now) c.args.scope.now (coll_seen c.in-Coll.cards) =
+    c.of_cards.ensures ∙ ap values_seen c.as_slice.ensures.value ∙ c.coll_of.ensures in
+    c.over_list.ensures
+    ∙ ap (λ x. over false (λ m. test_value (scene_seen c.args.scene.now) (c.args.scope.now ++ m ∷ []) (test_seen x)) (map (λ k. card_bound k) c.of_cards.result)) c.deref.ensures
+    ∙ ap (λ xs. over false (λ m. test_value (scene_seen c.args.scene.now) (c.args.scope.now ++ m ∷ []) (test_seen c.in-All.inner.value)) (map (λ k. card_bound k) xs)) b
+    ∙ ap (test_value (scene_seen c.args.scene.now) c.args.scope.now) (sym (ap test_seen c.in-All.is ∙ ap (λ d. all_of (domain_seen d) c.in-All.field-1 (test_seen c.in-All.inner.value)) c.in-Coll.is))
+
+pub tests::over_built-returns-in-Coll-domain : goal.tests::over_built-returns-in-Coll-domain
+tests::over_built-returns-in-Coll-domain t c =
+    let b : c.of_cards-in-Coll-domain.result ≡ coll_value (scene_seen c.args.scene.now) c.args.scope.now (coll_seen c.in-Coll-domain.cards) =
+    c.of_cards-in-Coll-domain.ensures ∙ ap values_seen c.as_slice-in-Coll-domain.ensures.value ∙ c.coll_of-in-Coll-domain.ensures in
+    c.over_list-in-Coll-domain.ensures
+    ∙ ap (λ x. over true (λ m. test_value (scene_seen c.args.scene.now) (c.args.scope.now ++ m ∷ []) (test_seen x)) (map (λ k. card_bound k) c.of_cards-in-Coll-domain.result)) c.deref-in-Coll-domain.ensures
+    ∙ ap (λ xs. over true (λ m. test_value (scene_seen c.args.scene.now) (c.args.scope.now ++ m ∷ []) (test_seen c.in-Any.inner.value)) (map (λ k. card_bound k) xs)) b
+    ∙ ap (test_value (scene_seen c.args.scene.now) c.args.scope.now) (sym (ap test_seen c.in-Any.is ∙ ap (λ d. any_of (domain_seen d) c.in-Any.field-1 (test_seen c.in-Any.inner.value)) c.in-Coll-domain.is))

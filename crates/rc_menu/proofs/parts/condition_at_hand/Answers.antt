@@ -1,13 +1,13 @@
-use Rattle.std.proofs.Common.{◌+◌, List, length, refl, ap, sym, subst, ◌∙◌}
+use Rattle.std.proofs.Common.{◌+◌, List, true, length, refl, ap, sym, subst, ◌∙◌}
 use Rattle.rc_sheet_spec.specs.Sheet.{cards_in, each_card}
 use Rattle.rc_play_spec.specs.Scene.{CardValue}
-use Rattle.rc_play_spec.specs.Value.{Bind as PureBind, coll_value}
+use Rattle.rc_play_spec.specs.Value.{Bind as PureBind}
 use Rattle.rc_ast.specs.Names.{loc_seen}
 use Rattle.rc_code.specs.Guards.{condition_meant, card_test_meant, IsFixedCondition}
 use Rattle.rc_menu.specs.declared.known.AtHand.TheVariants.{OfCard, Holds}
 use Rattle.rc_menu.specs.Known.{IsAtHand}
 use Rattle.rc_value.specs.Scene.{scene_seen}
-use Rattle.rc_menu.proofs.KnownLemmas.{any_known_there}
+use Rattle.rc_menu.proofs.KnownLemmas.{known_there}
 use Rattle.rc_menu.proofs.PartLemmas.{comparison_known, fixed_who}
 use Rattle.rc_menu.proofs.parts.condition_at_hand.Goals as goal
 
@@ -31,9 +31,9 @@ returns-in-OfCard c =
 pub returns-in-Some : goal.returns-in-Some
 returns-in-Some c =
     let among = loc_seen c.in-Some.among in
-    subst (λ q. IsAtHand (scene_seen c.args.scene.now) c.args.scope.now (condition_meant q) (Holds c.some_there.result)) (sym c.in-Some.is)
+    subst (λ q. IsAtHand (scene_seen c.args.scene.now) c.args.scope.now (condition_meant q) (Holds c.are_there.result)) (sym c.in-Some.is)
     (λ vars few.
-    any_known_there (scene_seen c.args.scene.now) c.args.scope.now 1 (each_card (cards_in among)) (card_test_meant 1 c.in-Some.card_test)
-    among c.wanted_by-wanted.result (coll_value (scene_seen c.args.scene.now) c.args.scope.now (cards_in among)) c.some_there.result
-    refl (fixed_who among.who (subst IsFixedCondition c.in-Some.is c.requires.fixed).0) (c.wanted_by-wanted.ensures 1) refl c.some_there.ensures
+    known_there (scene_seen c.args.scene.now) c.args.scope.now 1 true (each_card (cards_in among)) (card_test_meant 1 c.in-Some.card_test)
+    among c.wanted_by-wanted.result c.are_there.result
+    refl (fixed_who among.who (subst IsFixedCondition c.in-Some.is c.requires.fixed).0) (c.wanted_by-wanted.ensures 1) c.are_there.ensures
     c.in-Some.bound vars (few ∙ ap (λ (xs : List (PureBind CardValue)). length xs + 1) c.requires.outside))

@@ -5,5 +5,5 @@ use Rattle.rc_value.proofs.comparing.comparison_of.Goals as goal
 
 pub returns-in-Some : goal.returns-in-Some
 returns-in-Some c =
-    paired_his (scene_seen c.args.scene.now) c.args.scope.now (int_seen c.args.a.now) (int_seen c.args.b.now) c.len.result c.in-Some.name c.args.how c.len.ensures
+    paired_his (scene_seen c.args.scene.now) c.args.scope.now (int_seen c.args.a.now) (int_seen c.args.b.now) c.len.result c.in-Some.own c.args.how c.len.ensures
     c.against.result c.in-Some.ensures c.against.ensures

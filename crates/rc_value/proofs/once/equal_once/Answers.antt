@@ -16,7 +16,7 @@ returns-then-is_variable c =
     let t = test_seen c.args.test.now in
     let once = subst (λ e. IfSome c.card_once.result (IsCardOnce s vars (card_seen e))) c.deref-then-is_variable.ensures
     c.card_once.ensures in
-    subst (λ r. IfSome r (IsSought s vars t)) (sym c.same_value.ensures) (
+    subst (λ r. IfSome r (IsSought s vars t)) (sym c.value_of_once.ensures) (
     value_once s vars t (card_seen c.in-EqAttr.a.value) (card_seen c.in-EqAttr.b.value) c.in-EqAttr.name
     c.in-EqAttr.other c.card_once.result
     (ap test_seen c.in-EqAttr.is)
@@ -30,7 +30,7 @@ returns-then-is_variable-2 c =
     let t = test_seen c.args.test.now in
     let once = subst (λ e. IfSome c.card_once-then-is_variable-2.result (IsCardOnce s vars (card_seen e)))
     c.deref-then-is_variable-2.ensures c.card_once-then-is_variable-2.ensures in
-    subst (λ r. IfSome r (IsSought s vars t)) (sym c.same_value-then-is_variable-2.ensures) (
+    subst (λ r. IfSome r (IsSought s vars t)) (sym c.value_of_once-then-is_variable-2.ensures) (
     value_turned s vars t (card_seen c.in-EqAttr.a.value) (card_seen c.in-EqAttr.b.value) c.in-EqAttr.name
     c.in-EqAttr.other c.card_once-then-is_variable-2.result
     (ap test_seen c.in-EqAttr.is)
@@ -45,7 +45,7 @@ returns-then-is_variable-3 c =
     let t = test_seen c.args.test.now in
     let once = subst (λ e. IfSome c.card_once-then-is_variable-3.result (IsCardOnce s vars (card_seen e)))
     c.deref-then-is_variable-3.ensures c.card_once-then-is_variable-3.ensures in
-    subst (λ r. IfSome r (IsSought s vars t)) (sym c.same_face.ensures) (
+    subst (λ r. IfSome r (IsSought s vars t)) (sym c.face_of_once.ensures) (
     face_once s vars t (card_seen c.in-EqCard.a.value) (card_seen c.in-EqCard.b.value)
     c.card_once-then-is_variable-3.result
     (ap test_seen c.in-EqCard.is)
@@ -60,7 +60,7 @@ returns-then-is_variable-4 c =
     let t = test_seen c.args.test.now in
     let once = subst (λ e. IfSome c.card_once-then-is_variable-4.result (IsCardOnce s vars (card_seen e)))
     c.deref-then-is_variable-4.ensures c.card_once-then-is_variable-4.ensures in
-    subst (λ r. IfSome r (IsSought s vars t)) (sym c.same_face-then-is_variable-4.ensures) (
+    subst (λ r. IfSome r (IsSought s vars t)) (sym c.face_of_once-then-is_variable-4.ensures) (
     face_turned s vars t (card_seen c.in-EqCard.a.value) (card_seen c.in-EqCard.b.value)
     c.card_once-then-is_variable-4.result
     (ap test_seen c.in-EqCard.is)
@@ -70,7 +70,9 @@ returns-then-is_variable-4 c =
 
 pub returns-then-is_variable-5 : goal.returns-then-is_variable-5
 returns-then-is_variable-5 c =
+    subst (IsSought (scene_seen c.args.scene.now) c.args.scope.now (test_seen c.args.test.now)) (sym c.same_value.ensures) (
     value_is (scene_seen c.args.scene.now) c.args.scope.now (test_seen c.args.test.now) (card_seen c.in-Is.card.value)
     c.in-Is.name c.in-Is.value (ap test_seen c.in-Is.is)
     (sym (ap card_seen c.deref-in-Is.ensures) ∙ c.is_variable-in-Is.ensures c.if-is_variable-5.true
     ∙ ap card_var c.len-in-Is.ensures)
+    )

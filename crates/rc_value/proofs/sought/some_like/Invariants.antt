@@ -1,9 +1,0 @@
-use Rattle.std.proofs.Common.{◌≡◌, drop}
-use Rattle.std.specs.List.{list_any}
-use Rattle.rc_value.specs.Scene.{scene_seen}
-use Rattle.rc_value.specs.Sought.{face_value}
-use Rattle.rc_value.proofs.sought.some_like.Given as goal
-
-abbrev pub invariant-loop-place : goal.invariant-loop-place
-invariant-loop-place l =
-    list_any (face_value (scene_seen l.scene) l.likeness) (drop l.place l.cards) ≡ list_any (face_value (scene_seen l.scene) l.likeness) l.cards

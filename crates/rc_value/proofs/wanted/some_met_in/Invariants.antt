@@ -1,8 +1,0 @@
-use Rattle.std.proofs.Common.{◌≡◌, drop, slice_index_or, None}
-use Rattle.std.specs.List.{list_any}
-use Rattle.rc_value.specs.Wanted.{meets}
-use Rattle.rc_value.proofs.wanted.some_met_in.Given as goal
-
-abbrev pub invariant-loop-place : goal.invariant-loop-place
-invariant-loop-place l =
-    list_any (λ id. meets l.wanted (slice_index_or l.row id None)) (drop l.place l.ids) ≡ list_any (λ id. meets l.wanted (slice_index_or l.row id None)) l.ids
