@@ -2,7 +2,6 @@
 ghost use Rattle.std.specs.Prelude.{◌≡◌, ◌+◌, ◌<◌, ◌≤◌, ◌++◌, ◌∷◌, [], map, filter, length, option_map, true};
 ghost use Rattle.rc_base.specs.Limits.{most_in_collection};
 ghost use Rattle.rc_play_spec.specs.Ends.{first_of, last_of};
-ghost use Rattle.rc_play_spec.specs.Scene.{id_of};
 ghost use Rattle.rc_play_spec.specs.Value.{card_value, coll_value, colls_value, int_value, test_value, card_bound, attr_of_any, worth_of_any, sum_worth, cut};
 ghost use Rattle.rc_ast.specs.Expressions.{coll_seen, colls_seen, int_seen, test_seen};
 ghost use Rattle.rc_ast.specs.Expressions.{card_seen};
@@ -17,9 +16,9 @@ use crate::cards::id_or_none;
 use crate::collection::Collection;
 use crate::hand::{bare, number_at_hand, value_at_hand};
 use crate::known::add_known;
-use crate::leaves::{attr_of_id, cards_of, number_of, worth_of_id};
+use crate::leaves::{attr_of, cards_of, number_of, worth_of_id};
 use crate::loops::{Which, append, pick_from, push_if, sum};
-use crate::rows::{bottom_card, bottom_id, ids_of, top_card, top_id};
+use crate::rows::{bottom_card, ids_of, top_card};
 use crate::scene::Scene;
 use crate::scope::{Bind, Bindings};
 use crate::sought::{add_as_sought, count_as_sought};
@@ -174,45 +173,6 @@ fn bottom_of(scene: &Scene, scope: &Bindings, expr: &CollExpr) -> Option<Card>
     }
 }
 
-// The id of the card that an expression stands for: no more of a card is read by its value or its worth.
-#[cycle(values)]
-#[inline(always)]
-fn id_now(scene: &Scene, scope: &Bindings, expr: &CardExpr) -> Option<u16>
-    requires fits { length scope.now + card_depth (card_seen expr.now) ≤ 5 }
-    ensures { result ≡ option_map id_of (card_value (scene_seen scene.now) scope.now (card_seen expr.now)) }
-{
-    match expr {
-        CardExpr::Var(var) => scope.id(*var),
-        CardExpr::Top(cards) => id_at_top(scene, scope, cards),
-        CardExpr::Bottom(cards) => id_at_bottom(scene, scope, cards),
-        _ => id_or_none(card_of(scene, scope, expr)),
-    }
-}
-
-#[cycle(values)]
-#[inline(always)]
-fn id_at_top(scene: &Scene, scope: &Bindings, expr: &CollExpr) -> Option<u16>
-    requires fits { length scope.now + coll_depth (coll_seen expr.now) ≤ 5 }
-    ensures { result ≡ option_map id_of (last_of (coll_value (scene_seen scene.now) scope.now (coll_seen expr.now))) }
-{
-    match expr {
-        CollExpr::Loc(loc) => top_id(scene, scope, loc),
-        _ => id_or_none(pick_card(scene, scope, expr, Which::Top)),
-    }
-}
-
-#[cycle(values)]
-#[inline(always)]
-fn id_at_bottom(scene: &Scene, scope: &Bindings, expr: &CollExpr) -> Option<u16>
-    requires fits { length scope.now + coll_depth (coll_seen expr.now) ≤ 5 }
-    ensures { result ≡ option_map id_of (first_of (coll_value (scene_seen scene.now) scope.now (coll_seen expr.now))) }
-{
-    match expr {
-        CollExpr::Loc(loc) => bottom_id(scene, scope, loc),
-        _ => id_or_none(pick_card(scene, scope, expr, Which::Bottom)),
-    }
-}
-
 // The value of the card that an expression stands for.
 #[cycle(values)]
 pub(crate) fn value_of(scene: &Scene, scope: &Bindings, expr: &CardExpr, name: u16) -> Option<u16>
@@ -234,7 +194,7 @@ fn value_asked(scene: &Scene, scope: &Bindings, expr: &CardExpr, name: u16) -> O
     ensures { result ≡ attr_of_any (scene_seen scene.now) name
         (card_value (scene_seen scene.now) scope.now (card_seen expr.now)) }
 {
-    attr_of_id(scene, id_now(scene, scope, expr), name)
+    attr_of(scene, card_of(scene, scope, expr), name)
 }
 
 // What the card that an expression stands for is worth.
@@ -244,7 +204,7 @@ fn points_of(scene: &Scene, scope: &Bindings, expr: &CardExpr, map: u16) -> i64
     ensures { result ≡ worth_of_any (scene_seen scene.now) map
         (card_value (scene_seen scene.now) scope.now (card_seen expr.now)) }
 {
-    worth_of_id(scene, id_now(scene, scope, expr), map)
+    worth_of_id(scene, id_or_none(card_of(scene, scope, expr)), map)
 }
 
 #[cycle(values)]

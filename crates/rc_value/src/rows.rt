@@ -55,16 +55,6 @@ pub fn top_id(scene: &Scene, scope: &Bindings, loc: &Loc) -> Option<u16>
     last(ids_of(scene, scope, loc))
 }
 
-/// The id of the card at the bottom of a location, if one is there.
-#[inline(always)]
-pub fn bottom_id(scene: &Scene, scope: &Bindings, loc: &Loc) -> Option<u16>
-    ensures { result ≡ option_map id_of
-        (first_of (cut (cards_there (scene_seen scene.now)
-        (loc_place (scene_seen scene.now).known scope.now (loc_seen loc.now))))) }
-{
-    first(ids_of(scene, scope, loc))
-}
-
 // The card that an id of a location stands for, if there is one.
 #[inline(always)]
 fn card_in(shape: &Shape, loc: u16, id: Option<u16>) -> Option<Card>

@@ -1,9 +1,10 @@
-use Rattle.std.proofs.Common.{◌≡◌, ◌+◌, length, ◌++◌, ◌∷◌, [], true, false, cond, drop, map, rules, arith, ap, ap₂, sym, subst, ◌∙◌}
+use Rattle.std.proofs.Common.{◌≡◌, ◌+◌, length, ◌++◌, ◌∷◌, [], true, false, cond, drop, map, option_map, rules, arith, ap, ap₂, sym, subst, ◌∙◌}
 use Rattle.std.proofs.lemmas.Grind.{common_steps}
 use Rattle.std.proofs.lemmas.List.{drop_all, length-map, take_all}
 use Rattle.std.specs.List.{filter}
 use Rattle.rc_base.specs.Numbers.{below}
 use Rattle.rc_deck.proofs.RangeLemmas.{below_length}
+use Rattle.rc_play_spec.specs.Scene.{id_of}
 use Rattle.rc_play_spec.specs.Value.{card_bound, player_bound, attr_of_any, cut, card_value, coll_value, colls_value, test_value, tests_value}
 use Rattle.rc_ast.specs.Expressions.{test_seen, tests_seen, card_seen, coll_seen, colls_seen, domain_seen}
 use Rattle.rc_value.specs.Cards.{value_seen, values_seen}
@@ -119,10 +120,11 @@ expressions::add_passing-returns-in-Some-clause-cards t c =
     )
 
 pub expressions::value_asked-returns : goal.expressions::value_asked-returns
-expressions::value_asked-returns t c = c.attr_of_id.ensures _ c.id_now.ensures
+expressions::value_asked-returns t c = c.attr_of.ensures ∙ ap (attr_of_any (scene_seen c.args.scene.now) c.args.name) c.card_of.ensures
 
 pub expressions::points_of-returns : goal.expressions::points_of-returns
-expressions::points_of-returns t c = let e = c.worth_of_id.ensures _ c.id_now.ensures in grind (arith, common_steps, e)
+expressions::points_of-returns t c =
+    let e = c.worth_of_id.ensures _ (c.id_or_none.ensures ∙ ap (option_map id_of) c.card_of.ensures) in grind (arith, common_steps, e)
 
 pub expressions::count_of-returns-in-Union-clause-count : goal.expressions::count_of-returns-in-Union-clause-count
 expressions::count_of-returns-in-Union-clause-count t c =
