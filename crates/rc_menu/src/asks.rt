@@ -339,23 +339,16 @@ fn is_met(ask: &CardAsk, id: u16) -> bool
     }
 }
 
-/// A value that cards are to have, and the row in which theirs are.
-#[derive(Clone, Copy)]
-pub(crate) struct Sole<'t> {
-    pub(crate) row: &'t [Option<u16>],
-    pub(crate) value: u16,
-}
-
-/// The value, where one value is all that is asked.
+/// The row of values and the value that is asked for in it, where that is all that is asked.
 #[inline(always)]
-pub(crate) fn sole_value<'t>(asks: &[CardAsk<'t>]) -> Option<Sole<'t>>
-    ensures { IfSome result (λ sole. asks.now ≡ Value sole.value sole.row ∷ []) }
+pub(crate) fn sole_value<'t>(asks: &[CardAsk<'t>]) -> Option<(&'t [Option<u16>], u16)>
+    ensures { IfSome result (λ sole. asks.now ≡ Value sole.1 sole.0 ∷ []) }
 {
     if asks.len() != 1 {
         return None;
     }
     match asks[0] {
-        CardAsk::Value { value, row } => Some(Sole { row, value }),
+        CardAsk::Value { value, row } => Some((row, value)),
         _ => None,
     }
 }

@@ -152,23 +152,10 @@ fn location_of<'d>(domain: &'d Domain) -> Option<&'d Loc>
         × IsFixedOwner (loc_seen loc.now).who) }
 {
     match domain {
-        Domain::Coll(cards) => fixed_location(cards),
-        _ => None,
-    }
-}
-
-#[inline(always)]
-fn fixed_location<'d>(cards: &'d CollExpr) -> Option<&'d Loc>
-    ensures { IfSome result (λ loc. (coll_seen cards.now ≡ cards_in (loc_seen loc.now))
-        × IsFixedOwner (loc_seen loc.now).who) }
-{
-    match cards {
-        CollExpr::Loc(loc) => {
-            if is_fixed_owner(loc.who) {
-                return Some(loc);
-            }
-            None
-        }
+        Domain::Coll(cards) => match cards {
+            CollExpr::Loc(loc) if is_fixed_owner(loc.who) => Some(loc),
+            _ => None,
+        },
         _ => None,
     }
 }

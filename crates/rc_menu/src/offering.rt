@@ -222,7 +222,7 @@ fn offer_met(asks: &[CardAsk], any: bool, ids: &[u16], item: &Item, menu: &mut I
         (λ id. if joined any (map (met_value id) asks.now) then [] ∷ [] else []) 0 ids.now)) }
 {
     match sole_value(asks) {
-        Some(sole) => offer_having(sole.row, sole.value, ids, item, menu),
+        Some((row, value)) => offer_having(row, value, ids, item, menu),
         None => offer_joined(asks, any, ids, item, menu),
     }
 }

@@ -9,4 +9,4 @@ pub returns-in-Some : goal.returns-in-Some
 returns-in-Some c =
     c.offer_having.ensures
     ∙ ap (λ ps. take 256 (menu_seen c.args.menu.now.items ++ map (extended (item_seen c.args.item.now)) ps))
-    (sole_offers (Value c.in-Some.sole.value c.in-Some.sole.row) c.args.any c.args.asks.now c.args.ids.now c.in-Some.ensures)
+    (sole_offers (Value c.in-Some.value c.in-Some.row) c.args.any c.args.asks.now c.args.ids.now c.in-Some.ensures)
