@@ -3,11 +3,13 @@
 ghost use Rattle.std.specs.Prelude.{◌≡◌, ℕ, ◌≤◌, [], IfSome};
 ghost use Rattle.rc_base.specs.Limits.{most_in_list};
 ghost use Rattle.rc_base.specs.Numbers.{below};
-ghost use Rattle.rc_sheet_spec.specs.Sheet.{all_of, cards_in, each_player, eq_int, literal, number, size_of as size_expr, who_var};
+ghost use Rattle.rc_sheet_spec.specs.Sheet.{all_of, cards_in, each_player, eq_int, literal, number};
+ghost use Rattle.rc_sheet_spec.specs.Sheet.{size_of as size_expr, who_var};
 ghost use Rattle.rc_play_spec.specs.Value.{test_value};
 ghost use Rattle.rc_ast.specs.Names.{num_seen};
 ghost use Rattle.rc_ast.specs.Expressions.{coll_seen, int_seen, test_seen};
-ghost use Rattle.rc_value.specs.Comparing.{compare, held, number_held, size_held, suits, turned, ArePaired, IsHisOwn, IsSameForAll, IsSuited};
+ghost use Rattle.rc_value.specs.Comparing.{compare, held, number_held, size_held, suits, turned};
+ghost use Rattle.rc_value.specs.Comparing.{ArePaired, IsHisOwn, IsSameForAll, IsSuited};
 ghost use Rattle.rc_value.specs.declared.comparing.Own.TheVariants.{Size};
 ghost use Rattle.rc_value.specs.Over.{over};
 ghost use Rattle.rc_value.specs.Scene.{scene_seen};
@@ -153,8 +155,8 @@ fn same_for_all(scene: &Scene, scope: &Bindings, expr: &IntExpr) -> Option<i64>
     }
 }
 
-/// Whether one of the players has what is asked, or all of them. How many cards each has is asked most, and so in a loop
-/// of its own.
+/// Whether one of the players has what is asked, or all of them. How many cards each has is asked most, and so in a
+/// loop of its own.
 #[inline(always)]
 pub(crate) fn over_suited(scene: &Scene, suited: Suited, any: bool) -> bool
     ensures { result ≡ over any (suits (scene_seen scene.now) suited)
@@ -166,10 +168,12 @@ pub(crate) fn over_suited(scene: &Scene, suited: Suited, any: bool) -> bool
     }
 }
 
+// The same of how many cards each has. Mostly so many are asked for, and no more nor less.
 #[inline(always)]
 fn over_sized(scene: &Scene, name: u16, how: Comparator, against: i64, any: bool) -> bool
     ensures { result ≡ over any (suits (scene_seen scene.now)
-        (record { own = Size name; how = how; against = against })) (below (scene_seen scene.now).known.sheet.players) }
+        (record { own = Size name; how = how; against = against }))
+        (below (scene_seen scene.now).known.sheet.players) }
 {
     let own = Own::Size(name);
     match how {
@@ -181,6 +185,7 @@ fn over_sized(scene: &Scene, name: u16, how: Comparator, against: i64, any: bool
     }
 }
 
+// The same, player by player.
 #[inline(always)]
 fn over_each(scene: &Scene, suited: Suited, any: bool) -> bool
     ensures { result ≡ over any (suits (scene_seen scene.now) suited)

@@ -178,15 +178,6 @@ fn is_fixed(expr: &CardExpr) -> bool
     }
 }
 
-// Whether one expression is this variable, and the other is fixed.
-#[inline(always)]
-fn is_against_fixed(expr: &CardExpr, other: &CardExpr, place: usize) -> bool
-    ensures variable { result ≡ true → card_seen expr.now ≡ card_var place }
-    ensures fixed { result ≡ true → IsFixed (card_seen other.now) }
-{
-    is_variable(expr, place) && is_fixed(other)
-}
-
 /// A test of the card of the variable at a place as a value that the card is to have, in any scope that ends before it,
 /// where that is at hand: a value that the sheet names, or that of the card at the top of a location that no variable
 /// owns.
@@ -208,7 +199,7 @@ pub fn equal_at(scene: &Scene, scope: &Bindings, place: usize, test: &Test) -> O
 {
     match test {
         Test::EqAttr(a, name, b, other) => {
-            if is_against_fixed(a, b, place) {
+            if is_variable(a, place) && is_fixed(b) {
                 return equal_to(*name, value_at_hand(scene, scope, b, *other));
             }
             None
