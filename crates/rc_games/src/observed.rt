@@ -67,10 +67,10 @@ impl<O: Observer> Chooser for Observed<O> {
     fn choose<L: Ledger>(
         &mut self,
         alloc: Global,
-        need: &Need,
+        need: Need,
         steps: &mut Steps<L>,
     ) -> Result<u16, Memory> {
-        self.observer.see(alloc, need, &self.code);
+        self.observer.see(alloc, &need, &self.code);
         self.choices.choose(alloc, need, steps)
     }
 }

@@ -129,7 +129,7 @@ fn item_of<M: Machine, C: Chooser, L: Ledger>(
         Some(item) => Ok(item),
         None => {
             let need = need_of(alloc, job, seat, machine)?;
-            chooser.choose(alloc, &need, steps)
+            chooser.choose(alloc, need, steps)
         }
     }
 }

@@ -9,6 +9,7 @@ use Rattle.rc_play_spec.specs.Strategy.{menu_size}
 use Rattle.rc_play_spec.specs.View.{View}
 use Rattle.rc_rules.specs.Plan.{strategy_seen}
 use Rattle.rc_view.specs.Seen.{view_seen}
+use Rattle.rc_redraw.specs.Asking.{Key}
 use Rattle.rc_redraw.specs.declared.need.Need.{Need as StoredNeed}
 
 pub record Need : Type 0 where
@@ -27,6 +28,11 @@ need_seen need =
       menu = need.menu;
       view = view_seen need.view;
     }
+
+-- what a rollout of so many rounds by this number asks of playouts
+abbrev pub rollout_key : Need → ℕ → ℕ → Key
+rollout_key need rounds number =
+    record { about = need.about; ask = record { rounds = rounds; key = number; seed = need.seed; view = need.view } }
 
 -- What a seat sees where it decides: the view is that of a sound table, its control fits its site, the seat is the mover, something
 -- is offered, and the turn limit isn't met.

@@ -26,20 +26,20 @@ pub trait Chooser {
     fn choose<L: Ledger>(
         &mut self,
         alloc: Global,
-        need: &Need,
+        need: Need,
         steps: &mut Steps<L>,
     ) -> Result<u16, Memory>
-        requires served { serves self.old (need_seen need.now).about }
-        requires need { IsNeed (need_seen need.now) }
+        requires served { serves self.old (need_seen need).about }
+        requires need { IsNeed (need_seen need) }
         ensures choice { IfOk result (λ item. item
-            ≡ choice_of (need_seen need.now).about (need_seen need.now).strategy (need_seen need.now).seed
-            (need_seen need.now).view) }
+            ≡ choice_of (need_seen need).about (need_seen need).strategy (need_seen need).seed
+            (need_seen need).view) }
         ensures counted { OnOk result
-            (Chooses (need_seen need.now) (counts self.old) (counts self.new) steps.old steps.new) }
+            (Chooses (need_seen need) (counts self.old) (counts self.new) steps.old steps.new) }
         ensures lacking { OnErr result
-            (AsksSome (asked_for (need_seen need.now)) (counts self.old) (counts self.new) steps.old steps.new) }
+            (AsksSome (asked_for (need_seen need)) (counts self.old) (counts self.new) steps.old steps.new) }
         ensures rises { steps.old ≤ steps.new }
-        ensures bounded { steps.new ≤ steps.old + most_steps (need_seen need.now) }
+        ensures bounded { steps.new ≤ steps.old + most_steps (need_seen need) }
         ensures same { (about : PureAbout) → serves self.old about → serves self.new about }
         ensures named { name self.new ≡ name self.old };
 }

@@ -17,7 +17,7 @@ use rc_base::Steps;
 use rc_code::Code;
 use rc_deck::Memory;
 use rc_play_spec::tallies_are_bounded;
-use rc_redraw::{Ask, Key, Memo, Need, Reply};
+use rc_redraw::{Key, Memo, Need, Reply};
 use rc_rules::{Strategy, keyed_pick, made_by, scripted_item};
 use std::alloc::Global;
 use std::sync::Arc;
@@ -28,23 +28,23 @@ use std::sync::ledger::Ledger;
 /// Memory may run out.
 pub fn choose<M: Memo, L: Ledger>(
     alloc: Global,
-    need: &Need,
+    need: Need,
     code: &Arc<Code>,
     memo: &mut M,
     steps: &mut Steps<L>,
 ) -> Result<u16, Memory>
-    requires served { Serves (M.serves memo.old) (need_seen need.now).about }
-    requires need { IsNeed (need_seen need.now) }
-    requires code { StandsFor (need_seen need.now).about.sheet (code_seen code.now.value) }
+    requires served { Serves (M.serves memo.old) (need_seen need).about }
+    requires need { IsNeed (need_seen need) }
+    requires code { StandsFor (need_seen need).about.sheet (code_seen code.now.value) }
     ensures choice { IfOk result (λ item. item
-        ≡ choice_of (need_seen need.now).about (need_seen need.now).strategy (need_seen need.now).seed
-        (need_seen need.now).view) }
-    ensures counted { OnOk result (Chooses (need_seen need.now) (M.counts memo.old)
+        ≡ choice_of (need_seen need).about (need_seen need).strategy (need_seen need).seed
+        (need_seen need).view) }
+    ensures counted { OnOk result (Chooses (need_seen need) (M.counts memo.old)
         (M.counts memo.new) steps.old steps.new) }
-    ensures lacking { OnErr result (AsksSome (asked_for (need_seen need.now)) (M.counts memo.old)
+    ensures lacking { OnErr result (AsksSome (asked_for (need_seen need)) (M.counts memo.old)
         (M.counts memo.new) steps.old steps.new) }
     ensures rises { steps.old ≤ steps.new }
-    ensures bounded { steps.new ≤ steps.old + most_steps (need_seen need.now) }
+    ensures bounded { steps.new ≤ steps.old + most_steps (need_seen need) }
     ensures same { M.serves memo.new ≡ M.serves memo.old }
     ensures named { M.name memo.new ≡ M.name memo.old }
 {
@@ -63,8 +63,9 @@ pub fn choose<M: Memo, L: Ledger>(
             need.menu,
         )),
         Strategy::Rollout { rounds, key } => {
-            let key = key_of(alloc, need, *rounds, *key)?;
-            best_of(alloc, &key, need.menu, code, memo, steps)
+            let (rounds, number, menu) = (*rounds, *key, need.menu);
+            let key = need.into_key(alloc, rounds, number)?;
+            best_of(alloc, &key, menu, code, memo, steps)
         }
     }
 }
@@ -97,34 +98,12 @@ pub fn asked_key(alloc: Global, need: &Need) -> Result<Option<Key>, Memory>
     ensures { IfOk result (λ key. asked_for (need_seen need.now) ≡ keys_of key) }
 {
     match &need.strategy {
-        Strategy::Rollout { rounds, key } => Ok(Some(key_of(alloc, need, *rounds, *key)?)),
+        Strategy::Rollout { rounds, key } => {
+            let need = need.copy(alloc)?;
+            Ok(Some(need.into_key(alloc, *rounds, *key)?))
+        }
         _ => Ok(None),
     }
-}
-
-// The key of a rollout of so many rounds by this number.
-fn key_of(alloc: Global, need: &Need, rounds: u16, number: u64) -> Result<Key, Memory>
-    ensures { IfOk result (λ key. key_seen key ≡ record {
-      about = (need_seen need.now).about;
-      ask = record {
-        rounds = rounds;
-        key = number;
-        seed = (need_seen need.now).seed;
-        view =
-            (need_seen need.now).view;
-      };
-    }) }
-{
-    let view = need.view.copy(alloc)?;
-    let ask = Ask {
-        rounds,
-        key: number,
-        seed: need.seed,
-        view,
-    };
-    let ask = Arc::new(alloc, ask)?;
-    let about = Arc::try_clone(&need.about)?;
-    Ok(Key { about, ask })
 }
 
 // The first item of those with the largest total, out of a menu of so many, as the memo has the totals or playouts give

@@ -30,6 +30,7 @@ use rc_redraw::{Chooser, Need};
 use rc_rollout::first_largest;
 use rc_rules::{Machine, MatchRecord};
 use std::alloc::Global;
+use std::mem::replace;
 use std::sync::Arc;
 use std::sync::ledger::Ledger;
 
@@ -69,7 +70,8 @@ pub fn play_rival<M: Machine + Drop, C: Chooser, L: Ledger>(
     let mut lane = begin(alloc, job, machine)?;
     loop {
         lane_step(alloc, &mut lane, job)?;
-        match next_item(alloc, job, code, rival, &lane.phase, chooser, steps)? {
+        let phase = replace(&mut lane.phase, Phase::Spent);
+        match next_item(alloc, job, code, rival, phase, chooser, steps)? {
             Some(item) => make_ready(&mut lane.phase, item),
             None => return Ok(lane.notes),
         }
@@ -89,7 +91,7 @@ fn next_item<C: Chooser, L: Ledger>(
     job: &Job,
     code: &Arc<Code>,
     rival: &Rival,
-    phase: &Phase,
+    phase: Phase,
     chooser: &mut C,
     steps: &mut Steps<L>,
 ) -> Result<Option<u16>, Memory>
@@ -98,10 +100,10 @@ fn next_item<C: Chooser, L: Ledger>(
     requires served { C.serves chooser.old job.now.about.value }
     requires code { StandsFor job.now.about.value.sheet (code_seen code.now.value) }
     requires rival { IsRival rival.now }
-    requires asked { of_job job.now IsAsked (phase_seen phase.now) }
+    requires asked { of_job job.now IsAsked (phase_seen phase) }
     ensures chosen { IfOk result (Chosen job.now.about.value (rival_seen rival.now)
         (plan_seen job.now.plan.value) job.now.number
-        (phase_seen phase.now)) }
+        (phase_seen phase)) }
     ensures same { (about : PureAbout) → C.serves chooser.old about → C.serves chooser.new about }
 {
     match phase {
@@ -119,7 +121,7 @@ fn item_of<C: Chooser, L: Ledger>(
     job: &Job,
     code: &Arc<Code>,
     rival: &Rival,
-    need: &Need,
+    need: Need,
     chooser: &mut C,
     steps: &mut Steps<L>,
 ) -> Result<u16, Memory>
@@ -128,15 +130,15 @@ fn item_of<C: Chooser, L: Ledger>(
     requires served { C.serves chooser.old job.now.about.value }
     requires code { StandsFor job.now.about.value.sheet (code_seen code.now.value) }
     requires rival { IsRival rival.now }
-    requires need { IsNeed (need_seen need.now) }
-    requires of { of_job job.now IsOfMatch (need_seen need.now) }
+    requires need { IsNeed (need_seen need) }
+    requires of { of_job job.now IsOfMatch (need_seen need) }
     ensures choice { IfOk result (λ item. item
         ≡ rival_choice job.now.about.value (rival_seen rival.now) (plan_seen job.now.plan.value) job.now.number
-        need.now.view.seat (view_seen need.now.view)) }
+        need.view.seat (view_seen need.view)) }
     ensures same { (about : PureAbout) → C.serves chooser.old about → C.serves chooser.new about }
 {
     if holds(job, need.view.seat, rival.strategy) {
-        search_item(alloc, code, rival, need, steps)
+        search_item(alloc, code, rival, &need, steps)
     } else {
         chooser.choose(alloc, need, steps)
     }

@@ -1,4 +1,4 @@
-use Rattle.std.proofs.Common.{◌≡◌, Some, None, sym, ap, ◌∙◌, subst, arith}
+use Rattle.std.proofs.Common.{◌≡◌, Some, None, rules, sym, ap, ◌∙◌, subst, arith}
 use Rattle.std.proofs.lemmas.List.{length-map}
 use Rattle.rc_rules.specs.Plan.{plan_seen}
 use Rattle.rc_rules.specs.Record.{score_seen, record_seen}
@@ -7,7 +7,7 @@ use Rattle.rc_match.specs.Sound.{IsSoundBy}
 use Rattle.rc_match.proofs.PlayLemmas.{decided_in, decided_behind, each_scored}
 use Rattle.rc_match.proofs.SoundBy.{begun_sound, sound_step}
 use Rattle.rc_match.proofs.WayLemmas.{checked_by, lane_on}
-use Rattle.rc_search.specs.Chosen.{Chosen}
+use Rattle.rc_search.specs.Chosen.{Chosen, IsAsked}
 use Rattle.rc_search.specs.Rival.{rival_seen}
 use Rattle.rc_search.proofs.SoundLemmas.{choices, are_items, sound_chosen, chosen_end, asked_behind, fewer_left, fresh_chosen, fresh_ready}
 use Rattle.rc_search.proofs.playing.play_rival.Goals as goal
@@ -31,8 +31,10 @@ next_item-requires-clause-asked g c =
     let pick = c.loop-lane.invariant.ready.0 in
     let same : lane ≡ lane_on lane.config lane.shuffles lane.notes (ready pick) = ap (lane_on lane.config lane.shuffles lane.notes) c.loop-lane.invariant.ready.1 in
     let made = c.in_ok-lane_step.ensures in
-    asked_behind about rival plan m pick lane.config lane.shuffles lane.notes
-    (lane_seen g.M.Machine.config c.lane_step.new.state) (ap (stepped about plan m) (sym same) ∙ made.stepped) made.way
+    let taken : c.lane_step.new.state.phase ≡ c.replace-phase.result = search rules in
+    subst (λ ph. IsAsked about plan m (phase_seen ph)) taken
+    (asked_behind about rival plan m pick lane.config lane.shuffles lane.notes
+    (lane_seen g.M.Machine.config c.lane_step.new.state) (ap (stepped about plan m) (sym same) ∙ made.stepped) made.way)
 
 pub loop-lane-preserved : goal.loop-lane-preserved
 loop-lane-preserved g c =
@@ -49,7 +51,9 @@ loop-lane-preserved g c =
     let sound = sound_step about (choices about rival plan m) (are_items about rival plan m) plan m is.shape is.well is.sight pick lane.config lane.shuffles lane.notes after
     (subst (IsSoundBy about (choices about rival plan m) plan m) same c.loop-lane.invariant.sound) (ap (stepped about plan m) (sym same) ∙ made.stepped) made.way in
     let item = c.in-Some.item in
-    let chosen = subst (Chosen about rival plan m after.phase) c.in-Some.is c.in_ok-item.ensures.chosen in
+    let taken : c.replace-phase.result ≡ c.lane_step.new.state.phase = search rules in
+    let chosen = subst (λ ph. Chosen about rival plan m (phase_seen ph) (Some item)) taken
+    (subst (Chosen about rival plan m (phase_seen c.replace-phase.result)) c.in-Some.is c.in_ok-item.ensures.chosen) in
     record {
       own =
           record {
@@ -79,7 +83,9 @@ loop-lane-smaller g c =
     let sound = sound_step about (choices about rival plan m) (are_items about rival plan m) plan m is.shape is.well is.sight pick lane.config lane.shuffles lane.notes after
     (subst (IsSoundBy about (choices about rival plan m) plan m) same c.loop-lane.invariant.sound) step made.way in
     let item = c.in-Some.item in
-    let chosen = subst (Chosen about rival plan m after.phase) c.in-Some.is c.in_ok-item.ensures.chosen in
+    let taken : c.replace-phase.result ≡ c.lane_step.new.state.phase = search rules in
+    let chosen = subst (λ ph. Chosen about rival plan m (phase_seen ph) (Some item)) taken
+    (subst (Chosen about rival plan m (phase_seen c.replace-phase.result)) c.in-Some.is c.in_ok-item.ensures.chosen) in
     let fewer = fewer_left about rival plan m is.shape is.well is.sight after.phase (phase_seen c.make_ready.new.phase) after.config after.shuffles after.notes item sound chosen c.make_ready.ensures in
     let still = decided_behind about plan m pick lane.config lane.shuffles lane.notes after step in
     let before = ap decided_in same in
@@ -101,8 +107,10 @@ returns-in-None-clause-record g c =
     let after = lane_seen g.M.Machine.config c.lane_step.new.state in
     let sound = sound_step about (choices about rival plan m) (are_items about rival plan m) plan m is.shape is.well is.sight pick lane.config lane.shuffles lane.notes after
     (subst (IsSoundBy about (choices about rival plan m) plan m) same c.loop-lane.invariant.sound) (ap (stepped about plan m) (sym same) ∙ made.stepped) made.way in
+    let taken : c.replace-phase.result ≡ c.lane_step.new.state.phase = search rules in
     chosen_end about rival plan m after.phase after.config after.shuffles after.notes sound
-    (subst (Chosen about rival plan m after.phase) c.in-None.is c.in_ok-item.ensures.chosen)
+    (subst (λ ph. Chosen about rival plan m (phase_seen ph) None) taken
+    (subst (Chosen about rival plan m (phase_seen c.replace-phase.result)) c.in-None.is c.in_ok-item.ensures.chosen))
 
 pub returns-in-None-clause-each : goal.returns-in-None-clause-each
 returns-in-None-clause-each g c =
