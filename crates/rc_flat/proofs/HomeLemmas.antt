@@ -12,13 +12,16 @@ use Rattle.rc_rules.specs.Menu.{menu_seen}
 use Rattle.rc_value.specs.Current.{IsCurrent}
 use Rattle.rc_code.specs.Instruction.{Code, Instruction}
 use Rattle.rc_code.specs.Laws.{SitesArePlaced}
+use Rattle.rc_code.specs.Seen.{code_seen}
 use Rattle.rc_code.specs.Stands.{StandsFor}
+use Rattle.rc_code.specs.declared.code.Code.{Code as RawCode}
 use Rattle.rc_undo.specs.Undo.{Kept, gone_home}
 use Rattle.rc_flat.specs.Flat.{Flat, config_of, flat_from, IsInPlay, IsOffered}
 use Rattle.rc_flat.specs.State.{IsReady, flat_of}
 use Rattle.rc_flat.specs.MarkedMoments.{IsInMatch}
 use Rattle.rc_flat.specs.Machine.{Machine}
 use Rattle.rc_flat.specs.Home.{config_at_home, IsAtSite, IsHome}
+use Rattle.rc_flat.specs.HomeSeen.{IsCodeOf}
 use Rattle.rc_flat.specs.declared.stand.Stand.{Stand}
 use Rattle.rc_flat.specs.declared.state.State.{State}
 use Rattle.rc_flat.proofs.SitePlaceLemmas.{IsPlaceOf, decision_match}
@@ -62,6 +65,16 @@ pub is_at_site : (about : About) (code : Code) (control : Control) (site : ℕ) 
     IsWellFormed about.sheet → control.site ≡ Some site → IsPlaceOf code site place → IsAtSite about code.list place control
 is_at_site about code control site place laws stands formed is found =
     λ table can. decision_match about code table control laws stands formed can site place is found
+
+-- in the machine's own code
+pub own_site : (about : About) (list : List Instruction) (raw : RawCode) (control : Control) (site : ℕ)
+    (place : Path) → SitesArePlaced →
+    IsCodeOf about list raw → IsWellFormed about.sheet → control.site ≡ Some site → IsPlaceOf
+    (code_seen raw) site place →
+    IsAtSite about list place control
+own_site about list raw control site place laws has formed is found =
+    subst (λ (l : List Instruction). IsAtSite about l place control) has.same
+    (is_at_site about (code_seen raw) control site place laws has.stands formed is found)
 
 -- what is at home, by other names for the same
 module _ (about : About) (code : List Instruction) (place : Path) (table : Table) (control : Control) (m : Machine) (stand : Stand) (same : m.about ≡ about)
@@ -113,3 +126,11 @@ module _ (old new : Machine) (stand : Stand) (about : new.about ≡ old.about) (
       ap (λ (a : About). config_at_home a new.code new.home stand) about
       ∙ ap (λ (c : List Instruction). config_at_home old.about c new.home stand) code
       ∙ ap (λ (h : Option Table). config_at_home old.about old.code h stand) home
+
+-- and the code
+pub code_stays : (old new : Machine) (raw : RawCode) → new.about ≡ old.about → new.code ≡ old.code
+    → IsCodeOf old.about old.code raw →
+    IsCodeOf new.about new.code raw
+code_stays old new raw about code is =
+    subst (λ (a : About). IsCodeOf a new.code raw) (sym about) (subst (λ
+    (c : List Instruction). IsCodeOf old.about c raw) (sym code) is)

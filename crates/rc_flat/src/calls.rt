@@ -27,7 +27,7 @@ use rc_code::Instruction;
 use rc_deck::Memory;
 use rc_menu::copy_menu;
 use rc_play_spec::stops_stay;
-use rc_rules::{Bounds, Control, Dealer, Items, Machine, Menu, Scores, Stop};
+use rc_rules::{About, Bounds, Control, Dealer, Items, Machine, Menu, Scores, Stop};
 use rc_table::Table;
 
 impl FlatMachine {
@@ -91,6 +91,13 @@ impl FlatMachine {
         self.state.move_home(table, stand);
         refill(&mut self.state, &self.about, &self.code.list);
         self.spent = false;
+    }
+
+    /// What it plays by.
+    pub(crate) fn about(&self) -> &About
+        ensures { result.now ≡ self.now.about }
+    {
+        &self.about
     }
 
     /// Writes the menu of the site at which it stands, if there is one, over another one.

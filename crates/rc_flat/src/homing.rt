@@ -10,7 +10,7 @@ ghost use Rattle.rc_code.specs.Seen.{code_seen};
 ghost use Rattle.rc_code.specs.Stands.{StandsFor};
 
 use crate::machine::FlatMachine;
-use crate::{Stand, place_of, site_of};
+use crate::{Stand, place_of, site_of, write_control};
 use rc_code::{Code, sites_are_placed};
 use rc_deck::Memory;
 use rc_rules::{About, Bounds, Control, Dealer, Items, Machine, Menu, Scores, Stop};
@@ -26,6 +26,8 @@ use std::sync::Arc;
 pub struct HomeMachine {
     machine: FlatMachine,
     stand: Stand,
+    // that of the machine, with the places of its choices
+    code: Arc<Code>,
 }
 
 impl Model for HomeMachine {
@@ -67,6 +69,7 @@ impl HomeMachine {
         // what an about keeps
         let _sheet = about.sheet();
         let place = place_of(code, site_of(&control));
+        let placed = Arc::try_clone(code)?;
         let code = Arc::try_clone(code)?;
         let board = Board::at_home(alloc, table)?;
         let mut stand = Stand {
@@ -77,7 +80,11 @@ impl HomeMachine {
         let menu = Items::new(alloc)?;
         let machine = FlatMachine::at_place(code, about, board, control, place, menu);
         machine.write_menu(&mut stand.menu);
-        Ok(HomeMachine { machine, stand })
+        Ok(HomeMachine {
+            machine,
+            stand,
+            code: placed,
+        })
     }
 
     /// Goes home. A machine that was spent is whole again. It takes no memory.
@@ -100,6 +107,26 @@ impl HomeMachine {
         ensures about { self.new.about ≡ self.old.about }
         ensures fresh { self.new.spent ≡ false }
     {
+        self.machine.move_home(table, &self.stand);
+        self.machine.write_menu(&mut self.stand.menu);
+    }
+
+    /// Makes the decision for which this table and this control stand its home, in the same matches, and goes there. A
+    /// machine that was spent is whole again. It takes no memory.
+    pub fn move_to(&mut self, table: &Table, control: &Control)
+        requires laid { table.now.shape ≡ self.old.about.shape }
+        requires decides { CanDecide self.old.about table.now.table (control_seen control.now) }
+        ensures at { self.new.config ≡ self.new.home }
+        ensures home { self.new.home ≡ at_site self.old.about table.now.table (control_seen control.now) }
+        ensures about { self.new.about ≡ self.old.about }
+        ensures fresh { self.new.spent ≡ false }
+    {
+        sites_are_placed();
+        // what an about keeps
+        let _sheet = self.machine.about().sheet();
+        let place = place_of(&self.code, site_of(control));
+        self.stand.place = place;
+        write_control(control, &mut self.stand.control);
         self.machine.move_home(table, &self.stand);
         self.machine.write_menu(&mut self.stand.menu);
     }

@@ -73,6 +73,22 @@ impl<'v> Redraws<'v> {
         ensures shape { IfOk result (λ redraws. redraws.shape ≡ shape.now.value) }
         ensures view { IfOk result (λ redraws. redraws.view ≡ view_seen view.now) }
     {
+        let table = Table::new(alloc, shape)?;
+        Redraws::laid_on(alloc, shape, view, table)
+    }
+
+    /// The same, laid on a table of this shape, whatever that holds.
+    pub fn laid_on(
+        alloc: Global,
+        shape: &Arc<Shape>,
+        view: &'v View,
+        table: Table,
+    ) -> Result<Redraws<'v>, Memory>
+        requires sound { IsViewOfSound shape.now.value (view_seen view.now) }
+        requires laid { table.shape ≡ shape.now.value }
+        ensures shape { IfOk result (λ redraws. redraws.shape ≡ shape.now.value) }
+        ensures view { IfOk result (λ redraws. redraws.view ≡ view_seen view.now) }
+    {
         seen_places_take_the_smallest();
         let Layout {
             lists,
@@ -82,7 +98,7 @@ impl<'v> Redraws<'v> {
         // what a shape keeps
         let _players = shape.players();
         let marks = marks_known(alloc, shape, &view.sights, &seen, view.seat)?;
-        let mut table = Table::new(alloc, shape)?;
+        let mut table = table;
         table.lay(&lists, &view.numbers, &marks);
         let hidden = hiding_locations(alloc, shape, &view.sights)?;
         let pattern = kept_pattern(alloc, shape, &view.sights, &seen)?;
@@ -128,8 +144,8 @@ impl<'v> Redraws<'v> {
         &self.table
     }
 
-    // That table alone.
-    fn into_table(self) -> Table
+    /// That table alone.
+    pub fn into_table(self) -> Table
         ensures { result ≡ record { shape = self.entry.shape; table = self.entry.table } }
     {
         let Redraws { table, .. } = self;

@@ -1,12 +1,15 @@
 use Rattle.std.proofs.Common.{◌≡◌, rules, sym, ap, ◌∙◌, subst}
+use Rattle.rc_play_spec.specs.About.{About}
 use Rattle.rc_play_spec.specs.Decision.{at_site}
 use Rattle.rc_rules.specs.Control.{control_seen}
 use Rattle.rc_code.specs.Seen.{list_seen, code_seen}
+use Rattle.rc_code.specs.Stands.{StandsFor}
 use Rattle.rc_code.specs.declared.code.Code.{Code}
 use Rattle.rc_undo.specs.Undo.{Kept}
 use Rattle.rc_flat.specs.Flat.{config_of, flat_from}
 use Rattle.rc_flat.specs.MarkedMoments.{IsInMatch}
 use Rattle.rc_flat.specs.Home.{config_at_home, IsHome}
+use Rattle.rc_flat.specs.HomeSeen.{IsCodeOf}
 use Rattle.rc_flat.specs.declared.stand.Stand.{Stand}
 use Rattle.rc_flat.proofs.SitePlaceLemmas.{HasPlace, IsPlaceOf, decision_has}
 use Rattle.rc_flat.proofs.HomeLemmas.{is_at_site, home_made, home_here}
@@ -64,7 +67,17 @@ made c =
     )
 
 pub invariant_of-result : goal.invariant_of-result
-invariant_of-result c = ((made c).0, c.at_place-machine.ensures.notes ∙ ap (λ (k : Kept). k.notes) c.in_ok-board.ensures)
+invariant_of-result c =
+    let is = c.at_place-machine.ensures in
+    let kept : c.in_ok-placed.placed.value ≡ c.args.code.now.value = search rules in
+    let cloned : c.in_ok-code.code.value ≡ c.args.code.now.value = search rules in
+    let placed : IsCodeOf c.at_place-machine.result.about c.at_place-machine.result.code c.in_ok-placed.placed.value =
+    record {
+      stands = subst (λ (raw : Code). StandsFor c.at_place-machine.result.about.sheet (code_seen raw)) (sym kept)
+          (subst (λ (a : About). StandsFor a.sheet (code_seen c.args.code.now.value)) (sym is.about) c.requires.stands);
+      same = ap (λ (raw : Code). list_seen raw.list.items) (kept ∙ sym cloned) ∙ sym is.code;
+    } in
+    ((made c).0, is.notes ∙ ap (λ (k : Kept). k.notes) c.in_ok-board.ensures, placed)
 
 pub returns-clause-home : goal.returns-clause-home
 returns-clause-home c = (made c).1 ∙ (made c).2

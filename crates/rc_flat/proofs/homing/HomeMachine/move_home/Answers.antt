@@ -4,7 +4,7 @@ use Rattle.rc_rules.specs.Control.{control_seen}
 use Rattle.rc_rules.specs.Machine.{CanDecide}
 use Rattle.rc_flat.specs.Home.{Homing, IsHome, config_at_home}
 use Rattle.rc_flat.specs.declared.stand.Stand.{Stand}
-use Rattle.rc_flat.proofs.HomeLemmas.{home_made, home_here}
+use Rattle.rc_flat.proofs.HomeLemmas.{home_made, home_here, code_stays}
 use Rattle.rc_flat.proofs.homing.HomeMachine.move_home.Goals as goal
 
 pub move_home-requires-clause-home : goal.move_home-requires-clause-home
@@ -39,7 +39,13 @@ moved c =
     )
 
 pub invariant_of-self : goal.invariant_of-self
-invariant_of-self c = ((moved c).0, c.move_home.ensures.notes)
+invariant_of-self c =
+    let is = c.move_home.ensures in (
+      (moved c).0,
+      is.notes,
+      code_stays c.self.inside.machine c.move_home.new.self c.self.inside.code.value is.about
+          is.code c.self.invariant.2,
+    )
 
 pub returns-clause-home : goal.returns-clause-home
 returns-clause-home c = (moved c).1 ∙ (moved c).2
