@@ -10,6 +10,7 @@ use rc_code::Code;
 use rc_deck::Memory;
 use rc_redraw::{Chooser, Need};
 use rc_rollout::{Blank, Choices};
+use rc_rules::About;
 use std::alloc::Global;
 use std::sync::Arc;
 use std::sync::ledger::Ledger;
@@ -31,13 +32,14 @@ pub struct Observed<O: Observer> {
 }
 
 impl<O: Observer> Observed<O> {
-    /// Choices on this code, with this observer.
-    pub fn new(code: &Arc<Code>, observer: O) -> Result<Observed<O>, Memory>
+    /// Choices in matches of this about on this code, with this observer.
+    pub fn new(about: &Arc<About>, code: &Arc<Code>, observer: O) -> Result<Observed<O>, Memory>
+        ensures about { IfOk result (λ o. o.choices.ground ≡ about.now.value) }
         ensures choices { IfOk result (λ o. o.choices.code.value ≡ code.now.value) }
         ensures code { IfOk result (λ o. o.code.value ≡ code.now.value) }
     {
         let own = Arc::try_clone(code)?;
-        let choices = Choices::new(Arc::try_clone(code)?, Blank::new());
+        let choices = Choices::new(Arc::try_clone(about)?, Arc::try_clone(code)?, Blank::new());
         Ok(Observed {
             choices,
             code: own,
@@ -57,7 +59,7 @@ impl<O: Observer> Observed<O> {
 }
 
 impl<O: Observer> Chooser for Observed<O> {
-    ghost serves = { λ o about. StandsFor about.sheet (code_seen o.choices.code.value)
+    ghost serves = { λ o about. (about ≡ o.choices.ground) × StandsFor about.sheet (code_seen o.choices.code.value)
         × StandsFor about.sheet (code_seen o.code.value) };
 
     ghost counts = { λ o. counts_of o.choices.memo };

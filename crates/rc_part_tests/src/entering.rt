@@ -8,7 +8,7 @@ use crate::expect::expect_same;
 use rc_code::Code;
 use rc_games::{GAME, Game, Observed, Observer, game_in};
 use rc_outside::Gate;
-use rc_redraw::Need;
+use rc_redraw::{About, Need};
 use rc_workers::play_claimed;
 use std::alloc::Global;
 use std::process::Abort;
@@ -73,27 +73,34 @@ const PLAN: &[u8] =
 /// Choices for two workers, each with a doorkeeper.
 fn choosers(
     alloc: Global,
+    about: &Arc<About>,
     code: &Arc<Code>,
     doors: &Arc<Doors>,
 ) -> Result<Vec<Observed<Doorkeeper>>, Fail>
     ensures two { IfOk result (λ choosers. length choosers.items ≡ 2) }
+    ensures about { IfOk result (λ choosers. All (λ c. c.choices.ground ≡ about.now.value) choosers.items) }
     ensures code { IfOk result (λ choosers. All
         (λ c. (c.choices.code.value ≡ code.now.value) × (c.code.value ≡ code.now.value)) choosers.items) }
 {
-    let first = chooser(code, doors)?;
-    let second = chooser(code, doors)?;
+    let first = chooser(about, code, doors)?;
+    let second = chooser(about, code, doors)?;
     Ok(vec![in alloc; first, second]?)
 }
 
-fn chooser(code: &Arc<Code>, doors: &Arc<Doors>) -> Result<Observed<Doorkeeper>, Fail>
-    ensures { IfOk result (λ c. (c.choices.code.value ≡ code.now.value) × (c.code.value ≡ code.now.value)) }
+fn chooser(
+    about: &Arc<About>,
+    code: &Arc<Code>,
+    doors: &Arc<Doors>,
+) -> Result<Observed<Doorkeeper>, Fail>
+    ensures about { IfOk result (λ c. c.choices.ground ≡ about.now.value) }
+    ensures code { IfOk result (λ c. (c.choices.code.value ≡ code.now.value) × (c.code.value ≡ code.now.value)) }
 {
     let doorkeeper = Doorkeeper {
         doors: Arc::try_clone(doors)?,
         behind: 0,
         before: 0,
     };
-    Ok(Observed::new(code, doorkeeper)?)
+    Ok(Observed::new(about, code, doorkeeper)?)
 }
 
 /// How many decisions the choosers saw of matches that had entered, and of others.
@@ -119,7 +126,7 @@ fn play_game<R: AllocGlobal + Threads + Sync>(
     requires seats { length game.now.plan.value.strategies.items ≡ game.now.about.value.sheet.players }
 {
     let Game { about, plan, code } = game;
-    let choosers = choosers(rt.alloc(), code, doors)?;
+    let choosers = choosers(rt.alloc(), about, code, doors)?;
     let (_records, choosers) = play_claimed(
         rt,
         rt.alloc(),

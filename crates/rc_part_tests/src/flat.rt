@@ -43,7 +43,7 @@ fn watch_match<L: Ledger>(
     requires some { 0 < blank.parts }
 {
     let mut steps = Steps::<L>::new(blank);
-    let mut chooser = Observed::new(&game.code, Returns::new())?;
+    let mut chooser = Observed::new(&game.about, &game.code, Returns::new())?;
     let Game { about, plan, code } = game;
     let played = record_of(
         alloc,

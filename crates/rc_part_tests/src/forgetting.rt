@@ -41,7 +41,11 @@ fn play_with<L: Ledger>(
 {
     let mut steps = Steps::<L>::new(blank);
     let memo = Fickle::new(alloc, Arc::try_clone(&game.about)?, loses);
-    let mut choices = Choices::new(Arc::try_clone(&game.code)?, memo);
+    let mut choices = Choices::new(
+        Arc::try_clone(&game.about)?,
+        Arc::try_clone(&game.code)?,
+        memo,
+    );
     let Game { about, plan, code } = game;
     let first = record_of(alloc, about, plan, code, 0, false, &mut choices, &mut steps)?;
     let second = record_of(alloc, about, plan, code, 1, false, &mut choices, &mut steps)?;

@@ -12,7 +12,8 @@ ghost use Rattle.rc_redraw.specs.Counts.{Serves, kept_once};
 ghost use Rattle.rc_redraw.specs.Need.{need_seen, IsAtDecision, IsNeed};
 ghost use Rattle.rc_rollout.specs.Alone.{IsOffhand, keys_of};
 
-use crate::totals::tally;
+use crate::ground::Ground;
+use crate::totals::tally_on;
 use rc_base::Steps;
 use rc_code::Code;
 use rc_deck::Memory;
@@ -26,16 +27,18 @@ use std::sync::ledger::Ledger;
 /// The item that the strategy of a need chooses. For a rollout it asks the memo once. Where the memo has no totals they
 /// are played out on the code, which stands for the sheet, a step for each playout, and given to the memo to keep.
 /// Memory may run out.
-pub fn choose<M: Memo, L: Ledger>(
+pub(crate) fn choose<M: Memo, L: Ledger>(
     alloc: Global,
     need: Need,
     code: &Arc<Code>,
+    ground: &mut Ground,
     memo: &mut M,
     steps: &mut Steps<L>,
 ) -> Result<u16, Memory>
     requires served { Serves (M.serves memo.old) (need_seen need).about }
     requires need { IsNeed (need_seen need) }
     requires code { StandsFor (need_seen need).about.sheet (code_seen code.now.value) }
+    requires ground { ground.old ≡ (need_seen need).about }
     ensures choice { IfOk result (λ item. item
         ≡ choice_of (need_seen need).about (need_seen need).strategy (need_seen need).seed
         (need_seen need).view) }
@@ -47,6 +50,7 @@ pub fn choose<M: Memo, L: Ledger>(
     ensures bounded { steps.new ≤ steps.old + most_steps (need_seen need) }
     ensures same { M.serves memo.new ≡ M.serves memo.old }
     ensures named { M.name memo.new ≡ M.name memo.old }
+    ensures ground { ground.new ≡ ground.old }
 {
     let view = &need.view;
     match &need.strategy {
@@ -65,7 +69,7 @@ pub fn choose<M: Memo, L: Ledger>(
         Strategy::Rollout { rounds, key } => {
             let (rounds, number, menu) = (*rounds, *key, need.menu);
             let key = need.into_key(alloc, rounds, number)?;
-            best_of(alloc, &key, menu, code, memo, steps)
+            best_of(alloc, &key, menu, code, ground, memo, steps)
         }
     }
 }
@@ -113,6 +117,7 @@ fn best_of<M: Memo, L: Ledger>(
     key: &Key,
     menu: u16,
     code: &Arc<Code>,
+    ground: &mut Ground,
     memo: &mut M,
     steps: &mut Steps<L>,
 ) -> Result<u16, Memory>
@@ -120,6 +125,7 @@ fn best_of<M: Memo, L: Ledger>(
     requires at { IsAtDecision (key_seen key.now).about (key_seen key.now).ask.view }
     requires menu { menu ≡ strategy.menu_size (key_seen key.now).about (key_seen key.now).ask.view }
     requires code { StandsFor (key_seen key.now).about.sheet (code_seen code.now.value) }
+    requires ground { ground.old ≡ (key_seen key.now).about }
     ensures item { IfOk result (λ item. item
         ≡ strategy.first_largest (tally_of (key_seen key.now).about (key_seen key.now).ask)) }
     ensures counted { OnOk result (Asks (key_seen key.now) (M.counts memo.old)
@@ -130,12 +136,13 @@ fn best_of<M: Memo, L: Ledger>(
     ensures bounded { steps.new ≤ steps.old + cost_of (key_seen key.now) }
     ensures same { M.serves memo.new ≡ M.serves memo.old }
     ensures named { M.name memo.new ≡ M.name memo.old }
+    ensures ground { ground.new ≡ ground.old }
 {
     tallies_are_bounded();
     let reply = memo.look(alloc, key)?;
     match reply {
         Reply::Hit(tally) => Ok(first_largest(&tally.totals) as u16),
-        Reply::Miss => best_played(alloc, key, menu, code, memo, steps),
+        Reply::Miss => best_played(alloc, key, menu, code, ground, memo, steps),
     }
 }
 
@@ -145,6 +152,7 @@ fn best_played<M: Memo, L: Ledger>(
     key: &Key,
     menu: u16,
     code: &Arc<Code>,
+    ground: &mut Ground,
     memo: &mut M,
     steps: &mut Steps<L>,
 ) -> Result<u16, Memory>
@@ -152,6 +160,7 @@ fn best_played<M: Memo, L: Ledger>(
     requires at { IsAtDecision (key_seen key.now).about (key_seen key.now).ask.view }
     requires menu { menu ≡ strategy.menu_size (key_seen key.now).about (key_seen key.now).ask.view }
     requires code { StandsFor (key_seen key.now).about.sheet (code_seen code.now.value) }
+    requires ground { ground.old ≡ (key_seen key.now).about }
     ensures item { IfOk result (λ item. item
         ≡ strategy.first_largest (tally_of (key_seen key.now).about (key_seen key.now).ask)) }
     ensures kept { OnOk result (M.counts memo.new ≡ kept_once (key_seen key.now) (M.counts memo.old)) }
@@ -161,9 +170,10 @@ fn best_played<M: Memo, L: Ledger>(
     ensures bounded { steps.new ≤ steps.old + cost_of (key_seen key.now) }
     ensures same { M.serves memo.new ≡ M.serves memo.old }
     ensures named { M.name memo.new ≡ M.name memo.old }
+    ensures ground { ground.new ≡ ground.old }
 {
     tallies_are_bounded();
-    let entry = tally(alloc, key, code, steps)?;
+    let entry = tally_on(alloc, key, code, ground, steps)?;
     let item = first_largest(&entry.tally().totals) as u16;
     memo.keep(alloc, entry)?;
     Ok(item)

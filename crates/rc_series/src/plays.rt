@@ -123,20 +123,22 @@ fn play_plan<N: BookNaming, L: Ledger>(
 pub fn own_choices<N: BookNaming>(
     alloc: Global,
     fresh: Fresh,
-    about: &About,
+    about: &Arc<About>,
     code: &Arc<Code>,
     capacity: u32,
 ) -> Result<Choices<OwnBook<N>>, Memory>
     requires room { (1 ≤ capacity) × (capacity ≤ most_entries) }
-    requires name { (about.now ≡ N.about) × (capacity ≡ N.capacity) × (1 ≡ N.lanes) }
+    requires name { (about.now.value ≡ N.about) × (capacity ≡ N.capacity) × (1 ≡ N.lanes) }
     requires names { HasNames fresh N.looks N.hits N.keeps }
     requires parts { HasParts fresh N.lanes }
+    ensures about { IfOk result (λ choices. choices.ground ≡ about.now.value) }
     ensures code { IfOk result (λ choices. choices.code.value ≡ code.now.value) }
     ensures memo { IfOk result (λ choices. choices.memo ≡ ([], idle 0)) }
 {
     let book = own_book::<N>(alloc, fresh, about, capacity)?;
     let to_choose = Arc::try_clone(code)?;
-    Ok(Choices::new(to_choose, book))
+    let played_by = Arc::try_clone(about)?;
+    Ok(Choices::new(played_by, to_choose, book))
 }
 
 // A new book for one worker.

@@ -106,7 +106,7 @@ fn record_alone<L: Ledger>(
         keyed_match about.now.value (plan_seen plan.now.value) number ≡ Some (record_seen played)) }
 {
     let mut steps = Steps::<L>::new(blank);
-    let mut choices = Choices::new(Arc::try_clone(code)?, Blank::new());
+    let mut choices = Choices::new(Arc::try_clone(about)?, Arc::try_clone(code)?, Blank::new());
     let played = record_of(
         alloc,
         about,

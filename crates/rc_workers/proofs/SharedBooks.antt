@@ -21,7 +21,7 @@ use Rattle.rc_cache.specs.contracts.shared.SharedBook
 use Rattle.rc_cache.specs.contracts.shared.SharedBook.TheInside as InMemo
 use Rattle.rc_cache.specs.declared.naming.BookNaming
 use Rattle.rc_rollout.specs.contracts.choices.Choices
-use Rattle.rc_workers.proofs.Threaded.{about_sync, about_send, code_sync, code_send}
+use Rattle.rc_workers.proofs.Threaded.{about_sync, about_send, code_sync, code_send, ground_send}
 
 call_send : IsSend Call.the_row
 call_send = search (about_sync, about_send, Asks.the_sync, Asks.the_send, Crossing.crosses, sendable) depth 20
@@ -48,8 +48,12 @@ module _ (N : RattleType) (g : BookNaming.Ghosts N.Denot) where
       (struct_send (Declared.shape (InMemo.the_type a N R g))
       (shr_send _ _ R s, (shr_send _ _ (Mutex.the_row (Book.the_row N g)) (Locks.the_sync (Book.the_row N g) book_send), (Lanes.the_send N g, tt)))))
 
--- the code and what remembers
+-- the code, what is kept from decision to decision, and what remembers
 pub choices_send : (M : RattleType) → IsSend M → IsSend (Choices.the_row M)
 choices_send M s =
     recorded_send (Choices.the_field M).row _ _ (Choices.the_type M).to_one
-    (struct_send (Declared.shape (Choices.the_type M)) (search (code_sync, code_send, Crossing.crosses, sendable) depth 20, (s, tt)))
+    (struct_send (Declared.shape (Choices.the_type M)) (
+      search
+          (code_sync, code_send, Crossing.crosses, sendable) depth 20,
+      (ground_send, (s, tt)),
+    ))

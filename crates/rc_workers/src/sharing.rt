@@ -61,7 +61,7 @@ pub fn play_shared<'a, N: BookNaming + Send + Sync, R: Threads + Wait + Sync, G:
         Ok(code) => code,
         Err(Memory) => return Err(Memory),
     };
-    let choosers = match choosers_of(alloc, &code, memos) {
+    let choosers = match choosers_of(alloc, about, &code, memos) {
         Ok(choosers) => choosers,
         Err(Memory) => return Err(Memory),
     };
@@ -81,11 +81,13 @@ pub fn play_shared<'a, N: BookNaming + Send + Sync, R: Threads + Wait + Sync, G:
 // Choices by each of these memos on this code, in their order.
 fn choosers_of<'a, N: BookNaming, R: Wait>(
     alloc: Global,
+    about: &Arc<About>,
     code: &Arc<Code>,
     memos: Vec<SharedBook<'a, N, R>>,
 ) -> Result<Vec<Choices<SharedBook<'a, N, R>>>, Memory>
     ensures memos { IfOk result (λ choosers. map (λ c. c.memo) choosers.items ≡ memos.entry.items) }
-    ensures code { IfOk result (λ choosers. All (λ c. c.code.value ≡ code.now.value) choosers.items) }
+    ensures code { IfOk result (λ choosers. All
+        (λ c. (c.ground ≡ about.now.value) × (c.code.value ≡ code.now.value)) choosers.items) }
 {
     let mut choosers = Vec::new(alloc);
     let mut memos = memos;
@@ -94,7 +96,11 @@ fn choosers_of<'a, N: BookNaming, R: Wait>(
             Ok(code) => code,
             Err(_) => return Err(Memory),
         };
-        match choosers.push(Choices::new(code, memos.remove(0))) {
+        let about = match Arc::try_clone(about) {
+            Ok(about) => about,
+            Err(_) => return Err(Memory),
+        };
+        match choosers.push(Choices::new(about, code, memos.remove(0))) {
             Ok(()) => {}
             Err(_) => return Err(Memory),
         }

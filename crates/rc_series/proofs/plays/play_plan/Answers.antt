@@ -58,18 +58,18 @@ returns-in_ok-series_from-in-Ok-clause-matches g c =
     let about = c.args.about.now.value in
     let plan = c.args.plan.now.value in
     (all_told about (plan_seen plan) c.args.noted c.in-Ok.matches.items c.in_ok-series_from-in-Ok.field-0.named (c.in-Ok.ensures.are ∙ all_records about plan)
-    c.in-Ok.ensures.noted c.in_ok-series_from-in-Ok.ensures.matches (c.in_ok-series_from-in-Ok.ensures.standings ∙ ap (λ p. standings_of (plan_seen p) (map played_seen c.in-Ok.matches.items)) c.deref-in-Ok.ensures) c.in_ok-series_from-in-Ok.ensures.bounds).0
+    c.in-Ok.ensures.noted c.in_ok-series_from-in-Ok.ensures.matches (c.in_ok-series_from-in-Ok.ensures.standings ∙ ap (λ p. standings_of (plan_seen p) (map played_seen c.in-Ok.matches.items)) c.deref.ensures) c.in_ok-series_from-in-Ok.ensures.bounds).0
 
 pub returns-in_ok-series_from-in-Ok-clause-standings : goal.returns-in_ok-series_from-in-Ok-clause-standings
 returns-in_ok-series_from-in-Ok-clause-standings g c =
     let about = c.args.about.now.value in
     let plan = c.args.plan.now.value in
     (all_told about (plan_seen plan) c.args.noted c.in-Ok.matches.items c.in_ok-series_from-in-Ok.field-0.named (c.in-Ok.ensures.are ∙ all_records about plan)
-    c.in-Ok.ensures.noted c.in_ok-series_from-in-Ok.ensures.matches (c.in_ok-series_from-in-Ok.ensures.standings ∙ ap (λ p. standings_of (plan_seen p) (map played_seen c.in-Ok.matches.items)) c.deref-in-Ok.ensures) c.in_ok-series_from-in-Ok.ensures.bounds).1
+    c.in-Ok.ensures.noted c.in_ok-series_from-in-Ok.ensures.matches (c.in_ok-series_from-in-Ok.ensures.standings ∙ ap (λ p. standings_of (plan_seen p) (map played_seen c.in-Ok.matches.items)) c.deref.ensures) c.in_ok-series_from-in-Ok.ensures.bounds).1
 
 pub returns-in_ok-series_from-in-Ok-clause-named : goal.returns-in_ok-series_from-in-Ok-clause-named
 returns-in_ok-series_from-in-Ok-clause-named g c =
     let about = c.args.about.now.value in
     let plan = c.args.plan.now.value in
     (all_told about (plan_seen plan) c.args.noted c.in-Ok.matches.items c.in_ok-series_from-in-Ok.field-0.named (c.in-Ok.ensures.are ∙ all_records about plan)
-    c.in-Ok.ensures.noted c.in_ok-series_from-in-Ok.ensures.matches (c.in_ok-series_from-in-Ok.ensures.standings ∙ ap (λ p. standings_of (plan_seen p) (map played_seen c.in-Ok.matches.items)) c.deref-in-Ok.ensures) c.in_ok-series_from-in-Ok.ensures.bounds).2
+    c.in-Ok.ensures.noted c.in_ok-series_from-in-Ok.ensures.matches (c.in_ok-series_from-in-Ok.ensures.standings ∙ ap (λ p. standings_of (plan_seen p) (map played_seen c.in-Ok.matches.items)) c.deref.ensures) c.in_ok-series_from-in-Ok.ensures.bounds).2

@@ -5,7 +5,7 @@ abbrev pub invariant-loop-code : goal.invariant-loop-code
 invariant-loop-code g l =
     record {
       memos : map (λ c. c.memo) l.choosers.items ++ l.memos.items ≡ l.fn.memos.items;
-      code : All (λ c. c.code.value ≡ l.code.value) l.choosers.items;
+      code : All (λ c. (c.ground ≡ l.about.value) × (c.code.value ≡ l.code.value)) l.choosers.items;
     }
 
 abbrev pub decreases-loop-code : goal.decreases-loop-code

@@ -27,8 +27,15 @@ play_claimed-requires-clause-choosers g c κs within =
 pub play_claimed-requires-clause-served : goal.play_claimed-requires-clause-served
 play_claimed-requires-clause-served g c κs within =
     let stands : StandsFor c.args.about.now.value.sheet (code_seen c.in-Ok.code.value) = search rules in
-    all_so (λ c'. c'.code.value ≡ c.in-Ok.code.value) (λ c'. g.N.BookNaming.about ≡ c.args.about.now.value × StandsFor c.args.about.now.value.sheet (code_seen c'.code.value))
-    (λ c' same. (c.requires.about, subst (λ code. StandsFor c.args.about.now.value.sheet (code_seen code)) (sym same) stands))
+    all_so (λ c'. (c'.ground ≡ c.args.about.now.value) × (c'.code.value ≡ c.in-Ok.code.value))
+    (λ c'. (c.args.about.now.value ≡ c'.ground) × (g.N.BookNaming.about ≡ c.args.about.now.value)
+    × StandsFor c.args.about.now.value.sheet (code_seen c'.code.value))
+    (λ c' same. (
+      sym same.0,
+      c.requires.about,
+      subst (λ code. StandsFor c.args.about.now.value.sheet
+          (code_seen code)) (sym same.1) stands,
+    ))
     c.in-Ok-choosers_of.choosers.items c.in-Ok-choosers_of.ensures.code
 
 pub returns-clause-rise : goal.returns-clause-rise
