@@ -8,14 +8,13 @@ use Rattle.rc_sheet_spec.specs.Sheet.{player_class, who_var, Loc, LocName, Num, 
 use Rattle.rc_sheet_spec.specs.Naming.{class_of}
 use Rattle.rc_play_spec.specs.Owners.{place_among}
 use Rattle.rc_play_spec.specs.Scene.{CardValue}
-use Rattle.rc_play_spec.specs.Value.{Scene as PureScene, Bind as PureBind, player_bound, player_of, who_value, num_place, number_there, cards_there, cut, int_value, test_value}
+use Rattle.rc_play_spec.specs.Value.{Scene as PureScene, Bind as PureBind, player_bound, player_of, who_value, number_there, cards_there, cut, int_value, test_value}
 use Rattle.rc_code.specs.declared.atoms.Comparator.{Comparator}
 use Rattle.rc_code.specs.declared.atoms.Comparator.TheVariants.{Equal}
 use Rattle.rc_value.specs.declared.comparing.Own.{Own}
 use Rattle.rc_value.specs.declared.comparing.Own.TheVariants.{Number, Size}
 use Rattle.rc_value.specs.declared.comparing.Suited.{Suited}
 use Rattle.rc_value.specs.Comparing.{compare, held, suits, ArePaired, IsHisOwn, IsSameForAll, IsSuited}
-use Rattle.rc_value.specs.Once.{IsOuterOwner}
 use Rattle.rc_value.specs.Over.{over}
 use Rattle.rc_value.proofs.OverLemmas.{over_alike}
 use Rattle.rc_value.proofs.WantedLemmas.{at_end}
@@ -36,17 +35,6 @@ size_own place loc his = λ s vars player count.
     ∙ ap (λ n. pos (length (cut (cards_there s (place_among s.known.sheet player_class (map (λ (l : LocName). l.class) s.known.sheet.locs) loc.name n))))) (bound_player vars player place count)
 
 module _ (s : PureScene CardValue) (vars : List (PureBind CardValue)) where
-  pub literal_same : (e : IntExpr) (value : ℤ) → e ≡ literal value → IsSameForAll s vars e value
-  literal_same e value is = λ m. ap (int_value s (vars ++ m ∷ [])) is
-
-  pub number_same : (e : IntExpr) (num : Num) (n : ℤ) → e ≡ number num → IsOuterOwner (length vars) num.who →
-      n ≡ number_there s.known.numbers (num_place s.known vars num) → IsSameForAll s vars e n
-  number_same e num n is outer here = λ m.
-      ap (int_value s (vars ++ m ∷ [])) is
-      ∙ ap (λ owner. number_there s.known.numbers (place_among s.known.sheet (class_of num.who) (map (λ (l : NumName). l.class) s.known.sheet.nums) num.name owner))
-      (outer s.known vars m refl)
-      ∙ sym here
-
   -- two numbers, of which the first is his
   module _ (a b : IntExpr) (place : ℕ) (own : Own) (how : Comparator) (count : place ≡ length vars) where
     pub paired_his : (w : Option Suited) → IsHisOwn place a own →
