@@ -52,13 +52,6 @@ module _ (about : About) (fits : about.shape ≡ shape_of about.sheet) (laid : L
       (subst (AreCards about.shape) (sym is)
       (coll_cards about.shape (scene_at about laid.table frames) there same_players vars (recursion_from_All (IsBindOf about.shape) vars bound) e)))
 
-  pub sole_there : (e : CollExpr) (o : Option Card) →
-      IfSome o (λ card. coll_value (scene_at about laid.table frames) vars e ≡ value_seen card ∷ []) → IfSome o (λ card. IsCardOf about.shape (value_seen card))
-  sole_there e None is = tt
-  sole_there e (Some card) is =
-      (subst (AreCards about.shape) is
-      (coll_cards about.shape (scene_at about laid.table frames) there same_players vars (recursion_from_All (IsBindOf about.shape) vars bound) e)).0
-
 -- the place of a location's name is one that holds what the name does
 loc_holds : (about : About) (table : Table) (frames : List Frame) (vars : Vars) (loc : Loc) (n : ℕ) → about.shape ≡ shape_of about.sheet →
     loc_place (scene_at about table frames).known vars loc ≡ Some n → HoldsAs about.shape (holds_references about.sheet loc.name) n

@@ -1,5 +1,5 @@
-//! A few cards in a small list, which costs less to make than one for all, and one card without a list.
-ghost use Rattle.std.specs.Prelude.{◌≡◌, [], ◌∷◌, true, All, IfSome};
+//! A few cards in a small list, which costs less to make than one for all.
+ghost use Rattle.std.specs.Prelude.{◌≡◌, [], true, All};
 ghost use Rattle.rc_play_spec.specs.Value.{coll_value};
 ghost use Rattle.rc_play_spec.specs.Bound.{IsCardOf};
 ghost use Rattle.rc_ast.specs.Expressions.{coll_seen};
@@ -72,49 +72,4 @@ fn write_few(cards: &Collection, out: &mut FewCards) -> bool
         out.push(cards.at(place));
     }
     true
-}
-
-/// The card of a location or of a variable that stands for no other. None for another expression.
-#[inline(always)]
-pub fn sole_card_now(
-    context: &Context,
-    expr: &CollExpr,
-    table: &Table,
-    frames: &Frames,
-) -> Option<Card>
-    requires stands { IsContextOf context.now table.now frames.now.items }
-    requires well { in_scope context.now IsCollUnder (coll_seen expr.now) }
-    ensures card { IfSome result (λ card. coll_value
-        (scene_in context.now table.now frames.now.items) context.now.scope.now (coll_seen expr.now)
-        ≡ value_seen card ∷ []) }
-    ensures there { IfSome result (λ card. IsCardOf context.now.about.now.shape (value_seen card)) }
-{
-    // what an about and a table keep
-    let _fits = context.about.sheet();
-    let _sound = table.shape();
-    sole_bare(context, expr, table, frames)
-}
-
-#[inline(always)]
-fn sole_bare(context: &Context, expr: &CollExpr, table: &Table, frames: &Frames) -> Option<Card>
-    requires stands { IsContextOf context.now table.now frames.now.items }
-    ensures { IfSome result (λ card. coll_value (scene_in context.now table.now frames.now.items) context.now.scope.now
-        (coll_seen expr.now) ≡ value_seen card ∷ []) }
-{
-    let scene = scene_now(context, table, frames);
-    match bare(&scene, context.scope, expr) {
-        Some(cards) => sole(&cards),
-        None => None,
-    }
-}
-
-// The card of a collection of one.
-#[inline(always)]
-fn sole(cards: &Collection) -> Option<Card>
-    ensures { IfSome result (λ card. cards.now ≡ value_seen card ∷ []) }
-{
-    if cards.len() == 1 {
-        return Some(cards.at(0));
-    }
-    None
 }
