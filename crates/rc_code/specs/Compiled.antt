@@ -16,7 +16,8 @@ abbrev mutual
   effect_code (decrease num value) = simple (decrease num value) ∷ []
   effect_code (when test effects) = if_true test (length (effects_code effects)) ∷ effects_code effects
   effect_code (repeat count effects) = so_often count (length (effects_code effects)) ∷ effects_code effects
-  effect_code (for_each domain bound effects) = one_by_one domain bound (length (effects_code effects)) ∷ effects_code effects
+  effect_code (for_each domain bound effects) =
+      one_by_one domain bound (length (effects_code effects)) ∷ effects_code effects
   effect_code (next_is who) = simple (next_is who) ∷ []
   effect_code turn_round = simple turn_round ∷ []
   effect_code (peek cards who) = simple (peek cards who) ∷ []

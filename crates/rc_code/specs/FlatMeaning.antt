@@ -26,12 +26,15 @@ compared AtLeast a b = more_eq a b
 
 abbrev pub comparison_meant : Comparison → Test
 comparison_meant (Compare how one other) = compared how (amount_meant one) (amount_meant other)
-comparison_meant (Same one name other other_name) = eq_attr (top_card (cards_in (loc_seen one))) name (top_card (cards_in (loc_seen other))) other_name
+comparison_meant (Same one name other other_name) =
+    eq_attr (top_card (cards_in (loc_seen one))) name (top_card (cards_in (loc_seen other))) other_name
 
 abbrev pub flat_meant : FlatTest → Test
 flat_meant (One comparison) = comparison_meant comparison
 flat_meant (Both one other) = and_of (test (comparison_meant one) (test (comparison_meant other) no_test))
-flat_meant (EachHas bound name at count) = all_of each_player bound (eq_int (size_of (cards_in (record { who = who_var 0; name = name; at = at }))) (literal count))
+flat_meant (EachHas bound name at count) =
+    all_of each_player bound
+    (eq_int (size_of (cards_in (record { who = who_var 0; name = name; at = at }))) (literal count))
 
 abbrev pub IsFlatForm : Test → Option FlatTest → Type 0
 IsFlatForm t flat = IfSome flat (λ f. flat_meant f ≡ t)

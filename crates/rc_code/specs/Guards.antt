@@ -20,7 +20,8 @@ use Rattle.rc_code.specs.declared.guards.Guard.{Guard}
 -- the test of the card of the variable at a place
 abbrev pub card_test_meant : ℕ → CardTest → Test
 card_test_meant place (Value name value) = has_value (card_var place) name value
-card_test_meant place (Against name against other) = eq_attr (card_var place) name (top_card (cards_in (loc_seen against))) other
+card_test_meant place (Against name against other) =
+    eq_attr (card_var place) name (top_card (cards_in (loc_seen against))) other
 
 abbrev pub condition_meant : Condition → Test
 condition_meant (Known comparison) = comparison_meant comparison
@@ -37,7 +38,8 @@ abbrev pub part_meant : GuardPart → Test
 part_meant part = in_sense part.sense (condition_meant part.condition)
 
 abbrev pub guard_meant : Guard → Test
-guard_meant guard = if guard.any then or_of (tests_from (map part_meant guard.parts.items)) else and_of (tests_from (map part_meant guard.parts.items))
+guard_meant guard = if guard.any then or_of (tests_from (map part_meant guard.parts.items))
+    else and_of (tests_from (map part_meant guard.parts.items))
 
 -- an owner that no variable stands for, and a location of such an owner
 abbrev pub IsFixedWho : Who → Type 0

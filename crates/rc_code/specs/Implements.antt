@@ -13,7 +13,8 @@ abbrev pub IsTestOutside : Sheet → Test → Type 0
 IsTestOutside sheet t = (around : Around) × (around.binders ≡ 0) × IsTest sheet around t
 
 -- the alternatives of a choice in a well formed sheet, with the code of each one's effects
-pub record IsChoiceOf (sheet : Sheet) (site : ℕ) (alts : List Alt) (blocks : List Block) (inside : List Instruction) : Type 0 where
+pub record IsChoiceOf (sheet : Sheet) (site : ℕ) (alts : List Alt) (blocks : List Block)
+    (inside : List Instruction) : Type 0 where
   pub same : alts ≡ alts_at sheet site
   pub well : (around : Around) × (around.binders ≡ 0) × AreAlts sheet around alts
   pub each : (n : ℕ) → effects_in (block_in (slice_get blocks n) inside) ≡ effects_of (alt_in alts n)
@@ -55,10 +56,13 @@ pub record Implements (sheet : Sheet) (code : List Instruction) : Type 0 where
   pub items : items_in code ≡ sheet.items
   pub simples : AreSimple code
   pub effects : (place inside : ℕ) → slice_get code place ≡ Some (do_all inside) →
-      (around : Around) × (around.binders ≡ 0) × AreEffects sheet around (effects_in (take inside (drop (place + 1) code)))
-  pub ends : (place number : ℕ) (class : Class) (end : Test) (inside : ℕ) → slice_get code place ≡ Some (begin_stage number class end inside) →
+      (around : Around) × (around.binders ≡ 0)
+      × AreEffects sheet around (effects_in (take inside (drop (place + 1) code)))
+  pub ends : (place number : ℕ) (class : Class) (end : Test) (inside : ℕ) →
+      slice_get code place ≡ Some (begin_stage number class end inside) →
       IsTestOutside sheet end
-  pub choices : (place site : ℕ) (alts : List Alt) (blocks : List Block) (inside : ℕ) → slice_get code place ≡ Some (offer site alts blocks inside) →
+  pub choices : (place site : ℕ) (alts : List Alt) (blocks : List Block) (inside : ℕ) →
+      slice_get code place ≡ Some (offer site alts blocks inside) →
       IsChoiceOf sheet site alts blocks (drop (place + 1) code)
 
 -- the place in the code, inside the stages around it

@@ -12,8 +12,10 @@ abbrev pub effects_by : ℕ → List Instruction → Effects
 effects_by zero code = no_effect
 effects_by (suc n) [] = no_effect
 effects_by (suc n) (simple e ∷ code) = effect e (effects_by n code)
-effects_by (suc n) (if_true test inside ∷ code) = effect (when test (effects_by n (take inside code))) (effects_by n (drop inside code))
-effects_by (suc n) (so_often count inside ∷ code) = effect (repeat count (effects_by n (take inside code))) (effects_by n (drop inside code))
+effects_by (suc n) (if_true test inside ∷ code) =
+    effect (when test (effects_by n (take inside code))) (effects_by n (drop inside code))
+effects_by (suc n) (so_often count inside ∷ code) =
+    effect (repeat count (effects_by n (take inside code))) (effects_by n (drop inside code))
 effects_by (suc n) (one_by_one domain bound inside ∷ code) =
     effect (for_each domain bound (effects_by n (take inside code))) (effects_by n (drop inside code))
 effects_by (suc n) (do_all inside ∷ code) = effects_by n code
@@ -29,7 +31,8 @@ abbrev pub first_effects : Instruction → List Instruction → Effects
 first_effects (simple e) code = effect e no_effect
 first_effects (if_true test inside) code = effect (when test (effects_in (take inside code))) no_effect
 first_effects (so_often count inside) code = effect (repeat count (effects_in (take inside code))) no_effect
-first_effects (one_by_one domain bound inside) code = effect (for_each domain bound (effects_in (take inside code))) no_effect
+first_effects (one_by_one domain bound inside) code =
+    effect (for_each domain bound (effects_in (take inside code))) no_effect
 first_effects (do_all inside) code = no_effect
 first_effects (begin_stage number class end inside) code = no_effect
 first_effects (offer site alts blocks inside) code = no_effect
@@ -51,7 +54,8 @@ abbrev pub items_by : ℕ → List Instruction → SheetItems
 items_by zero code = no_item
 items_by (suc n) [] = no_item
 items_by (suc n) (do_all inside ∷ code) = item (do_item (effects_in (take inside code))) (items_by n (drop inside code))
-items_by (suc n) (begin_stage number class end inside ∷ code) = item (stage number class end (items_by n code)) (items_by n (drop inside code))
+items_by (suc n) (begin_stage number class end inside ∷ code) =
+    item (stage number class end (items_by n code)) (items_by n (drop inside code))
 items_by (suc n) (offer site alts blocks inside ∷ code) = item (choice site alts) (items_by n (drop inside code))
 items_by (suc n) (simple e ∷ code) = no_item
 items_by (suc n) (if_true test inside ∷ code) = no_item
@@ -68,7 +72,8 @@ items_from code = item_list (items_in code)
 
 -- The stage that a list begins with, and the code behind it. Where none does it is one that ends at once, and nothing is behind it.
 abbrev pub first_stage : List Instruction → Stage
-first_stage (begin_stage number class end inside ∷ code) = record { number = number; class = class; end = end; body = items_in code }
+first_stage (begin_stage number class end inside ∷ code) =
+    record { number = number; class = class; end = end; body = items_in code }
 first_stage code = record { number = 0; class = game_class; end = eq_who game game; body = no_item }
 
 abbrev pub behind_stage : List Instruction → List Instruction
@@ -92,7 +97,8 @@ left_behind code (place ∷ outer) =
 abbrev pub left_by : List Instruction → List ℕ → ℕ → Bool → List Part
 left_by code inner next false = todos (items_from (drop next code)) ++ left_behind code inner
 left_by code [] next true = []
-left_by code (place ∷ outer) next true = round (stage_at code place) ∷ todos (behind_at code place) ++ left_behind code outer
+left_by code (place ∷ outer) next true =
+    round (stage_at code place) ∷ todos (behind_at code place) ++ left_behind code outer
 
 abbrev pub left_in : List Instruction → Path → List Part
 left_in code path = left_by code (reverse path.outer) path.next path.at_round

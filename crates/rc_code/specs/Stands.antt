@@ -21,7 +21,8 @@ abbrev mutual
   EffectStands (repeat count effects) code =
       (inside : List Instruction) × (code ≡ so_often count (length inside) ∷ inside) × EffectsStand effects inside
   EffectStands (for_each domain bound effects) code =
-      (inside : List Instruction) × (code ≡ one_by_one domain bound (length inside) ∷ inside) × EffectsStand effects inside
+      (inside : List Instruction) × (code ≡ one_by_one domain bound (length inside) ∷ inside)
+      × EffectsStand effects inside
   EffectStands (next_is who) code = code ≡ simple (next_is who) ∷ []
   EffectStands turn_round code = code ≡ simple turn_round ∷ []
   EffectStands (peek cards who) code = code ≡ simple (peek cards who) ∷ []
@@ -29,7 +30,8 @@ abbrev mutual
   pub EffectsStand : Effects → List Instruction → Type 0
   EffectsStand no_effect code = code ≡ []
   EffectsStand (effect e effects) code =
-      (first : List Instruction) × (rest : List Instruction) × (code ≡ first ++ rest) × EffectStands e first × EffectsStand effects rest
+      (first : List Instruction) × (rest : List Instruction) × (code ≡ first ++ rest) × EffectStands e first
+      × EffectsStand effects rest
 
 -- an alternative is the code of its effects; its guards and domains stay with the choice
 abbrev pub AltStands : Alt → List Instruction → Type 0
@@ -43,7 +45,8 @@ abbrev pub AltsStand : ℕ → List Alt → List Block → List Instruction → 
 AltsStand before [] blocks code = (blocks ≡ []) × (code ≡ [])
 AltsStand before (alt ∷ alts) blocks code =
     (first : List Instruction) × (rest : List Instruction) × (others : List Block) × (code ≡ first ++ rest)
-    × (blocks ≡ record { before = before; inside = length first } ∷ others) × AltStands alt first × AltsStand (before + length first) alts others rest
+    × (blocks ≡ record { before = before; inside = length first } ∷ others) × AltStands alt first
+    × AltsStand (before + length first) alts others rest
 
 -- Items whose code begins at the place `at`, inside the stages that begin at the places `outer`, from outside to inside. A stage's body
 -- is followed by its end. At a choice's number the table of sites has its place, with those of the stages around it.
@@ -53,7 +56,8 @@ module _ (sites : List SitePlace) where
     ItemStands outer at (do_item effects) code =
         (inside : List Instruction) × (code ≡ do_all (length inside) ∷ inside) × EffectsStand effects inside
     ItemStands outer at (stage number class end body) code =
-        (inside : List Instruction) × (code ≡ begin_stage number class end (length inside + 1) ∷ inside ++ end_body ∷ [])
+        (inside : List Instruction)
+        × (code ≡ begin_stage number class end (length inside + 1) ∷ inside ++ end_body ∷ [])
         × ItemsStand (outer ++ at ∷ []) (at + 1) body inside
     ItemStands outer at (choice site alts) code =
         (inside : List Instruction) × (blocks : List Block) × (code ≡ offer site alts blocks (length inside) ∷ inside)

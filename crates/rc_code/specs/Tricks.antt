@@ -40,7 +40,8 @@ may_be_played led at mine other =
     or_of
     (test (nobody_has_led led)
     (test (eq_attr (card_var 0) 1 (top_card (lead at)) 1)
-    (test (not_of (any_of (each_card (hand current_player mine)) 2 (eq_attr (card_var 1) 1 (top_card (lead other)) 1))) no_test)))
+    (test (not_of
+    (any_of (each_card (hand current_player mine)) 2 (eq_attr (card_var 1) 1 (top_card (lead other)) 1))) no_test)))
 
 abbrev pub plays_a_card : ℕ → Test → Effects → Alt
 plays_a_card at guard effects = any_alt (each_card (hand current_player at)) 1 (if_alt guard effects)

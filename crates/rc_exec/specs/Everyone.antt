@@ -77,7 +77,8 @@ IsApart var other = Unit {0}
 
 -- the place of a player's location, if there is one
 abbrev pub location_of : Sheet → (name player : ℕ) → Option ℕ
-location_of sheet name player = place_among sheet player_class (map (λ (loc : LocName). loc.class) sheet.locs) name player
+location_of sheet name player =
+    place_among sheet player_class (map (λ (loc : LocName). loc.class) sheet.locs) name player
 
 -- the table with the cards of a member's location on top of another one
 abbrev pub gather_for : Sheet → Shape → (name to : ℕ) → Table → Bind CardValue → Table

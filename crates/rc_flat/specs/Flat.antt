@@ -26,7 +26,8 @@ abbrev pub config_of : Flat → Config
 config_of m = record { left = left_in m.code m.place; table = m.table; control = m.control }
 
 abbrev pub flat_from : About → List Instruction → Path → Table → Control → Flat
-flat_from about code place table control = record { about = about; code = code; place = place; table = table; control = control }
+flat_from about code place table control =
+    record { about = about; code = code; place = place; table = table; control = control }
 
 -- The place is one of the code. The frames are those of the open stages, and no more than 63 stages ever stand inside one another.
 -- The turn count is at most the turn limit, and each seat's count of decisions at most the turn count.
@@ -40,7 +41,8 @@ pub record IsInPlay (m : Flat) : Type 0 where
 -- a choice stands there
 abbrev pub IsChoiceAt : List Instruction → ℕ → Type 0
 IsChoiceAt code place =
-    (site : ℕ) × (alts : List Alt) × (blocks : List Block) × (inside : ℕ) × (slice_get code place ≡ Some (offer site alts blocks inside))
+    (site : ℕ) × (alts : List Alt) × (blocks : List Block) × (inside : ℕ)
+    × (slice_get code place ≡ Some (offer site alts blocks inside))
 
 -- the choice with this site is next, and it offers something
 pub record IsOffered (m : Flat) (site : ℕ) : Type 0 where

@@ -24,13 +24,15 @@ pub record Homing : Type 0 where
 -- where a match stands at home
 abbrev pub config_at_home : About → List Instruction → Option Table → Stand → Config
 config_at_home about code home stand =
-    config_of (flat_from about code stand.place (unwrap_or home (record { lists = []; numbers = []; marks = [] })) (control_seen stand.control))
+    config_of (flat_from about code stand.place (unwrap_or home (record { lists = []; numbers = []; marks = [] }))
+    (control_seen stand.control))
 
 -- with each table for the decision of this control a match goes on at the place, at the control's site
 abbrev pub IsAtSite : About → List Instruction → Path → Control → Type 0
 IsAtSite about code place control =
     (table : Table) → CanDecide about table control →
-    IsInMatch (flat_from about code place table control) × (config_of (flat_from about code place table control) ≡ at_site about table control)
+    IsInMatch (flat_from about code place table control)
+    × (config_of (flat_from about code place table control) ≡ at_site about table control)
 
 -- there is a home, where a match goes on, and the menu is kept
 pub record IsHome (about : About) (code : List Instruction) (home : Option Table) (stand : Stand) : Type 0 where

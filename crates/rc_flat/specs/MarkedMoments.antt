@@ -15,7 +15,14 @@ rewound (table ∷ before) n = if length before == n then table else rewound bef
 -- where a match stood that was marked
 abbrev pub flat_marked : About → List Instruction → List Table → Mark → Flat
 flat_marked about code all mark =
-    record { about = about; code = code; place = mark.place; table = rewound all mark.edits; control = control_seen mark.control }
+    record {
+      about = about;
+      code = code;
+      place = mark.place;
+      table = rewound all mark.edits;
+      control =
+          control_seen mark.control;
+    }
 
 -- a match that goes on there: its counts are in range, and where the control has a site something is offered there
 pub record IsInMatch (m : Flat) : Type 0 where

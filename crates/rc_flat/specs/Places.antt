@@ -34,7 +34,8 @@ Innermost path (Some place) = (outer : List ℕ) × (path.outer ≡ outer ++ pla
 -- a stage begins there
 abbrev pub IsStageAt : List Instruction → ℕ → Type 0
 IsStageAt code place =
-    (number : ℕ) × (class : Class) × (end : Test) × (inside : ℕ) × (slice_get code place ≡ Some (begin_stage number class end inside))
+    (number : ℕ) × (class : Class) × (end : Test) × (inside : ℕ)
+    × (slice_get code place ≡ Some (begin_stage number class end inside))
 
 abbrev pub AreStages : List Instruction → List ℕ → Type 0
 AreStages code [] = Unit {0}

@@ -13,7 +13,14 @@ use Rattle.rc_flat.specs.declared.state.State.{State}
 
 abbrev pub flat_of : About → List Instruction → State → Flat
 flat_of about code state =
-    record { about = about; code = code; place = state.place; table = state.board.laid.table; control = control_seen state.control }
+    record {
+      about = about;
+      code = code;
+      place = state.place;
+      table = state.board.laid.table;
+      control =
+          control_seen state.control;
+    }
 
 -- its menu is kept
 pub record KeepsMenu (about : About) (code : List Instruction) (state : State) (site : ℕ) : Type 0 where

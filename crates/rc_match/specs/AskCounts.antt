@@ -22,11 +22,14 @@ rollout_picks plan r = count_by (λ pick. is_rollout (strategy_at plan r.number 
 -- so often the match asks
 abbrev pub EachRolloutPickAsks : Type 0
 EachRolloutPickAsks =
-    (about : About) (plan : Plan) (m : ℕ) (r : Record) → about.shape ≡ shape_of about.sheet → IsWellFormed about.sheet → IsInSight about.sheet →
+    (about : About) (plan : Plan) (m : ℕ) (r : Record) → about.shape ≡ shape_of about.sheet → IsWellFormed about.sheet →
+    IsInSight about.sheet →
     keyed_match about plan m ≡ Some r → length (asks_of about plan m) ≡ rollout_picks plan r
 
 -- and the first matches of a plan together
 abbrev pub AllRolloutPicksAsk : Type 0
 AllRolloutPicksAsk =
-    (about : About) (plan : Plan) (count : ℕ) → about.shape ≡ shape_of about.sheet → IsWellFormed about.sheet → IsInSight about.sheet →
-    length (flat_map (asks_of about plan) (below count)) ≡ sum_by (rollout_picks plan) (filter_map (keyed_match about plan) (below count))
+    (about : About) (plan : Plan) (count : ℕ) → about.shape ≡ shape_of about.sheet → IsWellFormed about.sheet →
+    IsInSight about.sheet →
+    length (flat_map (asks_of about plan) (below count))
+    ≡ sum_by (rollout_picks plan) (filter_map (keyed_match about plan) (below count))

@@ -17,5 +17,6 @@ abbrev pub EqualAtAlike : Scene → ℕ → List Item → Type 0
 EqualAtAlike s site menu =
     s.table.now.shape ≡ shape_of (sheet_seen s.sheet.now) → IsInSight (sheet_seen s.sheet.now) →
     (control : Control) (table' : Table) (control' : Control) → control.frames ≡ frames_seen s.frames.now →
-    IsAlike s.table.now.shape (mover (sheet_seen s.sheet.now) control.frames) s.table.now.table table' control control' →
+    IsAlike s.table.now.shape
+    (mover (sheet_seen s.sheet.now) control.frames) s.table.now.table table' control control' →
     menu ≡ menu_of (scene_of (sheet_seen s.sheet.now) s.table.now.shape table' control'.frames) site

@@ -53,7 +53,8 @@ abbrev pub parts_told : PureScene CardValue → List (PureBind CardValue) → Li
 parts_told s vars parts c = map (λ part. told_of s vars (part_meant part) c) parts
 
 -- a test joined to what was asked before it, and whatever is asked behind it: it settles all, or it is asked
-abbrev pub IsJoined : PureScene CardValue → List (PureBind CardValue) → Test → Bool → Bool → List CardAsk → List CardAsk → Type 0
+abbrev pub IsJoined : PureScene CardValue → List (PureBind CardValue) → Test → Bool → Bool → List CardAsk →
+    List CardAsk → Type 0
 IsJoined s vars t any settled old new =
     (c : CardValue) (more : List Bool) → joined any (map (ask_value s vars c) old ++ told_of s vars t c ∷ more)
     ≡ (if settled then any else joined any (map (ask_value s vars c) new ++ more))
@@ -61,4 +62,5 @@ IsJoined s vars t any settled old new =
 -- a guard in parts: what doesn't read the variable settles it, or the rest is asked
 abbrev pub IsInParts : PureScene CardValue → List (PureBind CardValue) → Test → Parts → List CardAsk → Type 0
 IsInParts s vars t parts asks =
-    (c : CardValue) → told_of s vars t c ≡ (if parts.settled then parts.any else joined parts.any (map (ask_value s vars c) asks))
+    (c : CardValue) →
+    told_of s vars t c ≡ (if parts.settled then parts.any else joined parts.any (map (ask_value s vars c) asks))

@@ -11,11 +11,13 @@ use Rattle.rc_value.specs.Wanted.{IsWanted}
 
 -- a number that no variable owns
 abbrev pub IsFixedNumber : IntExpr → Type 0
-IsFixedNumber e = (s : PureScene CardValue) (vars vars' : List (PureBind CardValue)) → int_value s vars e ≡ int_value s vars' e
+IsFixedNumber e =
+    (s : PureScene CardValue) (vars vars' : List (PureBind CardValue)) → int_value s vars e ≡ int_value s vars' e
 
 -- whether two numbers compare so in all scopes
 abbrev pub IsKnownPair : PureScene CardValue → Comparator → IntExpr → IntExpr → Bool → Type 0
-IsKnownPair s how a b is = (vars : List (PureBind CardValue)) → compare how (int_value s vars a) (int_value s vars b) ≡ is
+IsKnownPair s how a b is =
+    (vars : List (PureBind CardValue)) → compare how (int_value s vars a) (int_value s vars b) ≡ is
 
 -- whether a test holds in all scopes of so many variables
 abbrev pub IsKnownAt : PureScene CardValue → ℕ → Test → Bool → Type 0
@@ -31,7 +33,8 @@ abbrev pub turned : Bool → Bool → Bool
 turned opposite holds = if opposite then not holds else holds
 
 abbrev pub IsTurned : Bool → Test → Test → Type 0
-IsTurned opposite t t' = (s : PureScene CardValue) (vars : List (PureBind CardValue)) → test_value s vars t' ≡ turned opposite (test_value s vars t)
+IsTurned opposite t t' = (s : PureScene CardValue) (vars : List (PureBind CardValue)) →
+    test_value s vars t' ≡ turned opposite (test_value s vars t)
 
 -- what is at hand of a test of the innermost variable's card
 abbrev pub IsAtHand : PureScene CardValue → List (PureBind CardValue) → Test → AtHand → Type 0
@@ -40,6 +43,7 @@ IsAtHand s vars t (Holds holds) = IsKnownAt s (length vars + 1) t holds
 IsAtHand s vars t Unclear = Unit {0}
 
 abbrev pub hand_turned : Bool → AtHand → AtHand
-hand_turned opposite (OfCard wanted) = OfCard (record { name = wanted.name; value = wanted.value; equal = turned opposite wanted.equal })
+hand_turned opposite (OfCard wanted) =
+    OfCard (record { name = wanted.name; value = wanted.value; equal = turned opposite wanted.equal })
 hand_turned opposite (Holds holds) = Holds (turned opposite holds)
 hand_turned opposite Unclear = Unclear

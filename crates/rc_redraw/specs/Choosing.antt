@@ -18,7 +18,8 @@ asked_by about (rollout rounds key) seed view =
 -- each, and the entry is kept.
 pub data Asks (key : Key) (before after : Counts) (steps steps' : ℕ) : Type 0 where
   hits : after ≡ looked_up key true before → steps' ≡ steps → Asks key before after steps steps'
-  misses : after ≡ kept_once key (looked_up key false before) → steps' ≡ steps + cost_of key → Asks key before after steps steps'
+  misses : after ≡ kept_once key (looked_up key false before) → steps' ≡ steps + cost_of key →
+      Asks key before after steps steps'
 
 -- These keys are looked up one after the other.
 abbrev pub AsksAll : List Key → Counts → Counts → ℕ → ℕ → Type 0
@@ -37,7 +38,8 @@ Chooses need before after steps steps' = AsksAll (asked_for need) before after s
 -- kept.
 pub data Lacks (key : Key) (before after : Counts) (steps steps' : ℕ) : Type 0 where
   unasked : after ≡ before → steps' ≡ steps → Lacks key before after steps steps'
-  unkept : after ≡ looked_up key false before → steps ≤ steps' → steps' ≤ steps + cost_of key → Lacks key before after steps steps'
+  unkept : after ≡ looked_up key false before → steps ≤ steps' → steps' ≤ steps + cost_of key →
+      Lacks key before after steps steps'
 
 -- The first of these keys are looked up one after the other, all of them or until memory runs out at one.
 abbrev pub AsksSome : List Key → Counts → Counts → ℕ → ℕ → Type 0

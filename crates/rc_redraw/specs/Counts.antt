@@ -25,7 +25,13 @@ with_call call calls = option_map (λ earlier. earlier ++ call ∷ []) calls
 -- behind a look that is answered
 abbrev pub looked_up : Key → Bool → Counts → Counts
 looked_up key hit c =
-    record { looks = c.looks + 1; hits = c.hits + one_if hit; keeps = c.keeps; calls = with_call (looked key hit) c.calls }
+    record {
+      looks = c.looks + 1;
+      hits = c.hits + one_if hit;
+      keeps = c.keeps;
+      calls =
+          with_call (looked key hit) c.calls;
+    }
 
 -- behind a keep that is answered
 abbrev pub kept_once : Key → Counts → Counts

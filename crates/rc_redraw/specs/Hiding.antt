@@ -27,7 +27,8 @@ pattern_of false (partly os) seen = if nat_lt 0 (unknown os) then pattern_at os 
 abbrev pub patterns : List Bool → List Sight → List ℕ → List (Option ℕ)
 patterns mems [] seen = []
 patterns [] (sight ∷ sights) seen = []
-patterns (m ∷ mems) (sight ∷ sights) seen = pattern_of m sight seen ++ patterns mems sights (drop (length (faces_at m sight)) seen)
+patterns (m ∷ mems) (sight ∷ sights) seen =
+    pattern_of m sight seen ++ patterns mems sights (drop (length (faces_at m sight)) seen)
 
 -- a pattern with ids in its other places
 abbrev pub blended : List (Option ℕ) → List ℕ → List ℕ

@@ -20,7 +20,8 @@ redealt key r = record { shape = r.shape; view = r.view; table = redraw r.shape 
 
 -- The locations that hide cards, what is known of their places, if anything is, with room for all that they hold then,
 -- the ids for the other places in ascending order, and as many in that order in which the table has them.
-pub record Keeps (r : Redrawn) (hidden : List ℕ) (pattern : List (Option ℕ)) (content unused order : List ℕ) : Type 0 where
+pub record Keeps (r : Redrawn) (hidden : List ℕ) (pattern : List (Option ℕ))
+    (content unused order : List ℕ) : Type 0 where
   pub of : IsViewOfSound r.shape r.view
   pub hiding : hidden ≡ hiding_from 0 (mems_of r.shape.places) r.view.sights
   pub known : IsKept pattern (patterns (mems_of r.shape.places) r.view.sights (seen_of r.shape r.view))

@@ -10,5 +10,6 @@ use Rattle.rc_series.specs.Series.{matches_of, looks_of}
 
 abbrev pub LooksAreRolloutPicks : Type 0
 LooksAreRolloutPicks =
-    (about : About) (plan : Plan) → about.shape ≡ shape_of about.sheet → IsWellFormed about.sheet → IsInSight about.sheet →
+    (about : About) (plan : Plan) → about.shape ≡ shape_of about.sheet → IsWellFormed about.sheet →
+    IsInSight about.sheet →
     length (looks_of about plan) ≡ sum_by (rollout_picks plan) (matches_of about plan)

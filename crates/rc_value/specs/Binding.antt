@@ -45,12 +45,14 @@ TestsBindFew =
 
 abbrev pub RangesBindFew : Type 0
 RangesBindFew =
-    (sheet : Sheet) (around : Around) (domain : Domain) → around.binders ≤ most_variables → IsRange sheet around domain →
+    (sheet : Sheet) (around : Around) (domain : Domain) → around.binders ≤ most_variables →
+    IsRange sheet around domain →
     around.binders + domain_depth domain ≤ most_variables
 
 abbrev pub DomainsBindFew : Type 0
 DomainsBindFew =
-    (sheet : Sheet) (around : Around) (domain : Domain) → around.binders ≤ most_variables → IsDomain sheet around domain →
+    (sheet : Sheet) (around : Around) (domain : Domain) → around.binders ≤ most_variables →
+    IsDomain sheet around domain →
     around.binders + range_depth domain ≤ most_variables
 
 -- an alternative, with the variables of its domains

@@ -30,12 +30,14 @@ turned AtLeast = AtMost
 -- a player's number of a name, and 0 where he has none
 abbrev pub number_held : PureScene CardValue → ℕ → ℕ → ℤ
 number_held s name player =
-    number_there s.known.numbers (place_among s.known.sheet player_class (map (λ n. n.class) s.known.sheet.nums) name player)
+    number_there s.known.numbers
+    (place_among s.known.sheet player_class (map (λ n. n.class) s.known.sheet.nums) name player)
 
 -- how many cards a player has in his location of a name
 abbrev pub size_held : PureScene CardValue → ℕ → ℕ → ℕ
 size_held s name player =
-    length (cut (cards_there s (place_among s.known.sheet player_class (map (λ l. l.class) s.known.sheet.locs) name player)))
+    length (cut
+    (cards_there s (place_among s.known.sheet player_class (map (λ l. l.class) s.known.sheet.locs) name player)))
 
 -- what he has of a name
 abbrev pub held : PureScene CardValue → Own → ℕ → ℤ
@@ -57,9 +59,12 @@ abbrev pub IsSameForAll : PureScene CardValue → List (PureBind CardValue) → 
 IsSameForAll s vars e n = (m : PureBind CardValue) → int_value s (vars ++ m ∷ []) e ≡ n
 
 -- two numbers, which compare so where his number is as it is to be
-abbrev pub ArePaired : PureScene CardValue → List (PureBind CardValue) → IntExpr → Comparator → IntExpr → Suited → Type 0
+abbrev pub ArePaired : PureScene CardValue → List (PureBind CardValue) → IntExpr → Comparator →
+    IntExpr → Suited → Type 0
 ArePaired s vars a how b w =
-    (player : ℕ) → compare how (int_value s (vars ++ player_bound player ∷ []) a) (int_value s (vars ++ player_bound player ∷ []) b) ≡ suits s w player
+    (player : ℕ) →
+    compare how (int_value s (vars ++ player_bound player ∷ []) a)
+    (int_value s (vars ++ player_bound player ∷ []) b) ≡ suits s w player
 
 -- a test that asks this of him
 abbrev pub IsSuited : PureScene CardValue → List (PureBind CardValue) → Test → Suited → Type 0

@@ -5,4 +5,5 @@ use Rattle.rc_play_spec.specs.Control.{Frame}
 
 -- it stands here, and none that fits stands inside it
 abbrev pub IsInnermost : (Frame → Bool) → List Frame → ℕ → Type 0
-IsInnermost fits frames at = (option_map fits (slice_get frames at) ≡ Some true) × (list_any fits (drop (suc at) frames) ≡ false)
+IsInnermost fits frames at =
+    (option_map fits (slice_get frames at) ≡ Some true) × (list_any fits (drop (suc at) frames) ≡ false)

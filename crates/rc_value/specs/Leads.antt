@@ -19,7 +19,8 @@ LeadsTo context e before frames after frames' =
 
 -- a location that holds references or cards, as its name does
 abbrev pub HoldsAs : Shape → Option Bool → ℕ → Type 0
-HoldsAs shape references loc = (place : Place) × (slice_get shape.places loc ≡ Some place) × (references ≡ Some (is_mem place.kind))
+HoldsAs shape references loc =
+    (place : Place) × (slice_get shape.places loc ≡ Some place) × (references ≡ Some (is_mem place.kind))
 
 -- the effect of a change of a number, and what it makes of the number and a value
 abbrev pub effect_by : Change → Num → IntExpr → Effect

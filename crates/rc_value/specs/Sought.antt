@@ -16,7 +16,8 @@ has_face s other c = both face_eq (Some (s.face c)) (option_map s.face other)
 
 -- whether its face is as it is sought
 abbrev pub face_value : PureScene CardValue → Likeness → CardValue → Bool
-face_value s l c = if l.equal then has_face s (option_map value_seen l.card) c else not (has_face s (option_map value_seen l.card) c)
+face_value s l c =
+    if l.equal then has_face s (option_map value_seen l.card) c else not (has_face s (option_map value_seen l.card) c)
 
 -- whether a card is as it is sought
 abbrev pub sought_value : PureScene CardValue → Sought → CardValue → Bool

@@ -30,10 +30,13 @@ IsWantedAt s place t w = (vars : List (PureBind CardValue)) → length vars ≡ 
 
 -- what is the same whatever variables stand for: an owner, a collection, a card
 abbrev pub IsFixedOwner : Who → Type 0
-IsFixedOwner who = (known : Known) (vars vars' : List (PureBind CardValue)) → who_value known vars who ≡ who_value known vars' who
+IsFixedOwner who =
+    (known : Known) (vars vars' : List (PureBind CardValue)) → who_value known vars who ≡ who_value known vars' who
 
 abbrev pub IsFixedCollection : CollExpr → Type 0
-IsFixedCollection cards = (s : PureScene CardValue) (vars vars' : List (PureBind CardValue)) → coll_value s vars cards ≡ coll_value s vars' cards
+IsFixedCollection cards = (s : PureScene CardValue) (vars vars' : List (PureBind CardValue)) →
+    coll_value s vars cards ≡ coll_value s vars' cards
 
 abbrev pub IsFixed : CardExpr → Type 0
-IsFixed card = (s : PureScene CardValue) (vars vars' : List (PureBind CardValue)) → card_value s vars card ≡ card_value s vars' card
+IsFixed card = (s : PureScene CardValue) (vars vars' : List (PureBind CardValue)) →
+    card_value s vars card ≡ card_value s vars' card

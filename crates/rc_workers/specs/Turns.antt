@@ -16,7 +16,8 @@ use Rattle.rc_workers.specs.declared.turn.Turn.{Turn}
 -- it is the record of the match of its number, with a score for each player, and what its choices bind is noted, or nothing is
 abbrev pub IsRecordIn : (noted : Bool) → About → Plan → Played → Type 0
 IsRecordIn noted about plan p =
-    (keyed_match about plan p.record.number ≡ Some (played_seen p)) × (length p.record.scores.items ≡ about.sheet.players)
+    (keyed_match about plan p.record.number ≡ Some (played_seen p))
+    × (length p.record.scores.items ≡ about.sheet.players)
     × IsNotedAs noted about plan p
 
 abbrev pub number_of : Played → ℕ
@@ -38,7 +39,8 @@ counted count numbers = filter (λ n. ltb n count) numbers
 
 -- A pass claimed until none was left: those of its numbers that count are the numbers of the records, in order, and it has one more
 -- at least. The records are those of the plan's matches. The chooser is called as before, and its counts rose by what these ask.
-pub record IsWork (noted : Bool) (about : About) (plan : Plan) (before after : Pass) (name name' : ℕ) (asked asked' : Counts) (records : List Played) : Type 0 where
+pub record IsWork (noted : Bool) (about : About) (plan : Plan) (before after : Pass) (name name' : ℕ)
+    (asked asked' : Counts) (records : List Played) : Type 0 where
   pub own : after.table ≡ before.table
   pub holders : after.holders ≡ before.holders
   pub numbers : counted (length plan.matches) after.numbers ≡ map number_of records
@@ -49,5 +51,6 @@ pub record IsWork (noted : Bool) (about : About) (plan : Plan) (before after : P
 
 abbrev pub IsTurn : {C : Type 0} → (C → ℕ) → (C → Counts) → (noted : Bool) → About → Plan → Worker C → Turn C → Type 0
 IsTurn name counts noted about plan worker turn =
-    IsWork noted about plan worker.pass turn.pass (name worker.chooser) (name turn.chooser) (counts worker.chooser) (counts turn.chooser)
+    IsWork noted about plan worker.pass turn.pass (name worker.chooser) (name turn.chooser) (counts worker.chooser)
+    (counts turn.chooser)
     turn.records.items
