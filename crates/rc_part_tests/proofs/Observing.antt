@@ -9,7 +9,7 @@ use Rattle.rc_rollout.specs.contracts.choices.Choices
 use Rattle.rc_workers.proofs.Threaded.{code_sync, code_send, ground_send}
 use Rattle.rc_games.specs.contracts.observed.Observed
 
--- the code and what remembers nothing
+-- the code, what is kept from decision to decision, and what remembers nothing
 choices_send : IsSend (Choices.the_field Blank.the_row).row
 choices_send =
     struct_send (Declared.shape (Choices.the_type Blank.the_row)) (search (code_sync, code_send, Crossing.crosses, sendable) depth 20, (Blanks.the_send, tt))

@@ -1,5 +1,5 @@
 -- What lanes have together.
-use Rattle.std.proofs.Common.{◌≡◌, ℕ, zero, suc, ◌+◌, ◌<◌, List, [], ◌∷◌, ◌++◌, length, length-append, map, All, refl, sym, ap, ◌∙◌, arith}
+use Rattle.std.proofs.Common.{◌≡◌, ℕ, zero, suc, ◌+◌, ◌<◌, List, [], ◌∷◌, ◌++◌, length, length-append, get_or, take, drop, map, All, refl, sym, ap, ◌∙◌, arith}
 use Rattle.std.specs.List.{AllByRecursion, sum_by}
 use Rattle.std.proofs.lemmas.List.{map-append, append_assoc}
 use Rattle.std.proofs.lemmas.List.Elements.{All-from_recursion, recursion_from_All}
@@ -25,6 +25,12 @@ all_so {X} P Q so xs all = All-from_recursion Q xs (by xs (recursion_from_All P 
 pub map_twice : {X Y Z : Type 0} (f : X → Y) (h : Y → Z) (xs : List X) → map (λ x. h (f x)) xs ≡ map h (map f xs)
 map_twice f h [] = refl
 map_twice f h (x ∷ xs) = ap (λ l. h (f x) ∷ l) (map_twice f h xs)
+
+-- the first value and the others
+pub first_and_rest : {Y : Type 0} (left rest : List Y) (y : Y) → 0 < length left → y ≡ get_or left 0 y →
+    rest ≡ take 0 left ++ drop (0 + 1) left → left ≡ y ∷ rest
+first_and_rest [] rest y some value is = absurd (omega (arith, some))
+first_and_rest (z ∷ zs) rest y some value is = ap (λ x. x ∷ zs) (sym value) ∙ ap (λ ys. y ∷ ys) (sym is)
 
 -- The next value is taken off a list, and what has it is pushed: these and what is left are the same values as before.
 pub moved_over : {X Y : Type 0} (f : X → Y) (done more : List X) (left rest all : List Y) (x : X) (y : Y) →

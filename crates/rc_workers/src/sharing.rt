@@ -92,20 +92,31 @@ fn choosers_of<'a, N: BookNaming, R: Wait>(
     let mut choosers = Vec::new(alloc);
     let mut memos = memos;
     while !memos.is_empty() {
-        let code = match Arc::try_clone(code) {
-            Ok(code) => code,
-            Err(_) => return Err(Memory),
+        let chooser = match choices_by(about, code, memos.remove(0)) {
+            Ok(chooser) => chooser,
+            Err(Memory) => return Err(Memory),
         };
-        let about = match Arc::try_clone(about) {
-            Ok(about) => about,
-            Err(_) => return Err(Memory),
-        };
-        match choosers.push(Choices::new(about, code, memos.remove(0))) {
+        match choosers.push(chooser) {
             Ok(()) => {}
             Err(_) => return Err(Memory),
         }
     }
     Ok(choosers)
+}
+
+// Choices in matches of this about by a memo on this code.
+fn choices_by<'a, N: BookNaming, R: Wait>(
+    about: &Arc<About>,
+    code: &Arc<Code>,
+    memo: SharedBook<'a, N, R>,
+) -> Result<Choices<SharedBook<'a, N, R>>, Memory>
+    ensures memo { IfOk result (λ c. c.memo ≡ memo.entry) }
+    ensures about { IfOk result (λ c. c.ground ≡ about.now.value) }
+    ensures code { IfOk result (λ c. c.code.value ≡ code.now.value) }
+{
+    let about = Arc::try_clone(about)?;
+    let code = Arc::try_clone(code)?;
+    Ok(Choices::new(about, code, memo))
 }
 
 // The lanes of choosers, in their order.

@@ -1,21 +1,23 @@
-use Rattle.std.proofs.Common.{◌≡◌, ◌∷◌, All, rules, sym, ap, ◌∙◌, subst}
+use Rattle.std.proofs.Common.{◌≡◌, All, arith, sym, subst}
 use Rattle.std.proofs.lemmas.List.Elements.{All-push}
-use Rattle.rc_workers.proofs.LaneLemmas.{moved_over}
+use Rattle.rc_workers.proofs.LaneLemmas.{first_and_rest, moved_over}
 use Rattle.rc_workers.proofs.sharing.choosers_of.Goals as goal
 
-pub loop-code-preserved : goal.loop-code-preserved
-loop-code-preserved g c =
-    let split : c.loop-code.memos.items ≡ c.remove.result ∷ c.remove.new.self.items = search rules in
-    let own : c.new.result.ground ≡ c.args.about.now.value = search rules in
-    let same = ap (λ code. code.value) c.new.ensures.code ∙ c.in-Ok.ensures in
+pub loop-memos-preserved : goal.loop-memos-preserved
+loop-memos-preserved g c =
+    let left = c.loop-memos.memos in
+    let split = first_and_rest left.items c.remove.new.self.items c.remove.result
+    (omega (arith, c.remove.ensures.len, left.ok.0)) c.remove.ensures.value c.remove.ensures.by_index.2 in
+    let made = c.in-Ok.ensures in
     record {
       memos =
-          moved_over (λ c'. c'.memo) c.loop-code.choosers.items c.push.new.self.items c.loop-code.memos.items c.remove.new.self.items c.args.memos.items
-          c.new.result c.remove.result c.in-Ok-push.ensures.items split c.new.ensures.memo c.loop-code.invariant.memos;
+          moved_over (λ c'. c'.memo) c.loop-memos.choosers.items c.push.new.self.items c.loop-memos.memos.items
+          c.remove.new.self.items c.args.memos.items
+          c.in-Ok.chooser c.remove.result c.in-Ok-push.ensures.items split made.memo c.loop-memos.invariant.memos;
       code =
           subst (All (λ c'. (c'.ground ≡ c.args.about.now.value) × (c'.code.value ≡ c.args.code.now.value)))
           (sym c.in-Ok-push.ensures.items)
-          (All-push (λ c'. (c'.ground ≡ c.args.about.now.value) ×
-          (c'.code.value ≡ c.args.code.now.value)) c.loop-code.choosers.items c.new.result
-          c.loop-code.invariant.code (own, same));
+          (All-push (λ c'. (c'.ground ≡ c.args.about.now.value) × (c'.code.value ≡ c.args.code.now.value))
+          c.loop-memos.choosers.items c.in-Ok.chooser
+          c.loop-memos.invariant.code (made.about, made.code));
     }
