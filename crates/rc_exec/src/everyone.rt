@@ -56,9 +56,9 @@ pub fn change_for_each(
     }
 }
 
-// The same of an effect.
+/// The same of an effect.
 #[inline(always)]
-fn change_of(
+pub fn change_of(
     context: &Context,
     effect: &Effect,
     table: &Table,

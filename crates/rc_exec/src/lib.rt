@@ -16,5 +16,7 @@ mod shuffling;
 mod simple;
 
 pub use blocks::{do_block, front, past};
+pub use changes::EachChange;
+pub use everyone::{change_all, change_of};
 pub use items::do_item;
 pub use simple::do_simple;
