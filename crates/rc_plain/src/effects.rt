@@ -16,7 +16,7 @@ ghost use Rattle.rc_value.specs.Point.{point_of};
 ghost use Rattle.rc_value.specs.Under.{IsCollUnder, IsEffectUnder, AreEffectsUnder};
 ghost use Rattle.rc_value.specs.Context.{scene_in, IsContextOf, in_scope};
 
-use crate::alone::do_alone;
+use crate::alone::{change_each, change_in, do_alone};
 use rc_ast::{CollExpr, Domain, Effect, IntExpr, Test};
 use rc_base::limits::MOST_TIMES;
 use rc_rules::{About, Dealer, Frames};
@@ -207,6 +207,13 @@ fn for_players<D: Dealer>(
     ensures quiet { board.new.notes ≡ false }
     ensures dealing { D.dealing dealer.new ≡ D.dealing dealer.old }
 {
+    match change_in(context, effects, board.table(), &*frames) {
+        Some(each) => {
+            change_each(context.about, each, board);
+            return;
+        }
+        None => {}
+    }
     let mut scope = context.scope.with(Bind::Player(0));
     for player in 0..context.about.sheet().players {
         let bind = Bind::Player(player);

@@ -1,6 +1,7 @@
-use Rattle.std.proofs.Common.{◌++◌, ◌∷◌, [], rules, arith, sym, ap, ◌∙◌, subst}
+use Rattle.std.proofs.Common.{◌++◌, ◌∷◌, [], rules, arith, refl, sym, ap, ◌∙◌, subst}
 use Rattle.std.proofs.lemmas.Grind.{common_steps}
 use Rattle.rc_sheet_spec.specs.Sheet.{Sheet}
+use Rattle.rc_sheet_spec.specs.WellFormed.{AreEffects}
 use Rattle.rc_play_spec.specs.Value.{player_bound}
 use Rattle.rc_play_spec.specs.Effects.{does}
 use Rattle.rc_ast.specs.declared.effects.Effect.TheFolds
@@ -9,6 +10,10 @@ use Rattle.rc_value.specs.Point.{point_of}
 use Rattle.rc_value.specs.Under.{IsEffectUnder, AreEffectsUnder}
 use Rattle.rc_value.proofs.EffectRows.{is_if, is_repeat, is_each, effect_under}
 use Rattle.rc_value.proofs.EffectSteps.{one_player, no_player}
+use Rattle.rc_table.specs.Laid.{Laid}
+use Rattle.rc_rules.specs.Control.{frames_seen}
+use Rattle.rc_exec.specs.Everyone.{AreTurns, change_for}
+use Rattle.rc_exec.proofs.EveryoneLemmas.{all_turns}
 use Rattle.rc_plain.proofs.EffectSteps.{same_effect}
 use Rattle.rc_plain.proofs.effects.+effects.Goals as goal
 
@@ -64,6 +69,26 @@ do_all-do_effect-requires g t c κs within =
     c.loop-effect.effect-index c.effect-item.result
     c.loop-effect-test.true c.effect-item.is in
     (search (rules, TheFolds.the_lemmas), (within, (c.loop-effect.invariant.0, (c.loop-effect.invariant.3, well))))
+
+pub for_players-change_in-requires-clause-well : goal.for_players-change_in-requires-clause-well
+for_players-change_in-requires-clause-well g t c =
+    let are = c.requires.well (player_bound 0) in
+    (are.0, subst (λ es. AreEffects c.args.context.now.about.now.sheet are.0 (effects_seen es)) (sym c.deref.ensures.value) are.3)
+
+pub for_players-returns-in-Some-clause-does : goal.for_players-returns-in-Some-clause-does
+for_players-returns-in-Some-clause-does g t c =
+    let context = c.args.context.now in
+    let dealing = g.D.Dealer.dealing c.args.dealer.now in
+    let state = g.D.Dealer.state c.args.dealer.now in
+    let frames = c.args.frames.now.items in
+    let vars = context.scope.now in
+    let turns =
+    subst (λ es. AreTurns context.about.now vars (frames_seen frames) (effects_seen es) (change_for c.in-Some.each))
+    c.deref.ensures.value c.in-Some.ensures.turns in
+    all_turns context.about.now dealing vars (frames_seen frames) (effects_seen c.args.effects.now.items) (change_for c.in-Some.each)
+    turns
+    (point_of c.args.board.now.laid frames state) refl
+    ∙ ap (λ (laid : Laid). point_of laid frames state) (sym c.change_each.ensures.leads)
 
 pub for_players-loop-player-preserved : goal.for_players-loop-player-preserved
 for_players-loop-player-preserved g t c =
