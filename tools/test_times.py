@@ -90,7 +90,7 @@ class Table(unittest.TestCase):
         self.root = Path(folder.name)
         self.write("crates.txt", "# crates\nrc_a:\nrc_b: rc_a lru\nrc_c_tests: rc_a rc_b\n")
         self.write("crates/rc_a/src/lib.rt", "//! a\n\nfn f() {}\n")
-        self.write("crates/rc_a/src/inner/tests.rt", "fn t() {}\n")
+        self.write("crates/rc_a/src/inner/tests.rt", "#[test] fn t() {}\n")
         self.write("crates/rc_b/specs/Lib.antt", "a\nb\n")
         self.write("crates/rc_b/proofs/f/Answers.antt", "a\n")
         self.write("crates/rc_b/must-fail/wrong.edit", "")

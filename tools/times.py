@@ -42,8 +42,8 @@ def lines_in(files: Iterable[Path]) -> int:
 
 
 def is_test(crate: str, file: Path) -> bool:
-    """Whether a file of code holds tests alone."""
-    return crate.endswith("_tests") or "tests" in (file.stem, file.parent.name)
+    """Whether a file of code holds tests. Some file of that name holds the tests of sheets instead."""
+    return crate.endswith("_tests") or "#[test]" in file.read_text("utf-8")
 
 
 def size_of(root: Path, crate: str) -> Size:
