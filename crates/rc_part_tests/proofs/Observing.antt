@@ -12,7 +12,8 @@ use Rattle.rc_games.specs.contracts.observed.Observed
 -- the code, what is kept from decision to decision, and what remembers nothing
 choices_send : IsSend (Choices.the_field Blank.the_row).row
 choices_send =
-    struct_send (Declared.shape (Choices.the_type Blank.the_row)) (search (code_sync, code_send, Crossing.crosses, sendable) depth 20, (Blanks.the_send, tt))
+    struct_send (Declared.shape (Choices.the_type Blank.the_row))
+    (search (code_sync, code_send, Crossing.crosses, sendable) depth 20, (ground_send, (Blanks.the_send, tt)))
 
 -- choices, the code once more, and an observer that may be sent
 pub observed_send : (O : RattleType) → IsSend O → IsSend (Observed.the_row O)
