@@ -432,7 +432,8 @@ class Forms(unittest.TestCase):
     def setUp(self) -> None:
         specs = ROOT / "crates/rc_check/specs"
         self.words = dict(re.findall(r'^text_of keyword\.(\w+) = codes "(.+)"$', (specs / "Keyword.antt").read_text(), re.MULTILINE))
-        grammar = (specs / "Grammar.antt").read_text()
+        # A row goes on in lines that are indented.
+        grammar = re.sub(r"\n +", " ", (specs / "Grammar.antt").read_text())
         rows = re.findall(r"^(\w+)_of (?:symbol|rule)\.(\w+) = (.+)$", grammar, re.MULTILINE)
         self.table = {(what, name): cells.removesuffix("[]").split(" ∷ ")[:-1] for what, name, cells in rows}
         self.more = {name: cells != "None" for what, name, cells in rows if what == "more"}

@@ -13,8 +13,7 @@ use rc_code::{Comparison, CompiledTest, FlatTest};
 use rc_rules::Frames;
 use rc_table::Table;
 
-// In functions of their own, so that little stands in line where a test is asked.
-#[inline(never)]
+#[inline(always)]
 fn comparison_now(
     context: &Context,
     comparison: &Comparison,
@@ -32,7 +31,7 @@ fn comparison_now(
     )
 }
 
-#[inline(never)]
+#[inline(always)]
 fn both_now(
     context: &Context,
     one: &Comparison,

@@ -24,9 +24,9 @@ fn amount_of(scene: &Scene, scope: &Bindings, amount: &Amount) -> i64
     }
 }
 
-/// Whether a comparison holds.
+/// Whether a comparison holds. It is too long to stand in line.
 #[tactic(auto, using(crate::proofs::AtomLemmas::compared_is))]
-#[inline(always)]
+#[inline(never)]
 pub fn comparison_holds(scene: &Scene, scope: &Bindings, comparison: &Comparison) -> bool
     ensures { result ≡ test_value (scene_seen scene.now) scope.now (comparison_meant comparison.now) }
 {

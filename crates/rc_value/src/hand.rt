@@ -64,6 +64,25 @@ pub fn number_at_hand(scene: &Scene, scope: &Bindings, expr: &IntExpr) -> Option
     }
 }
 
+// The same of the second of two numbers. But for a literal it takes a call, as both are too long to stand in line.
+#[inline(always)]
+fn second_at_hand(scene: &Scene, scope: &Bindings, expr: &IntExpr) -> Option<i64>
+    ensures { IfSome result (λ n. n ≡ int_value (scene_seen scene.now) scope.now (int_seen expr.now)) }
+{
+    match expr {
+        IntExpr::Lit(value) => Some(*value),
+        _ => number_by_call(scene, scope, expr),
+    }
+}
+
+// The same by a call.
+#[inline(never)]
+fn number_by_call(scene: &Scene, scope: &Bindings, expr: &IntExpr) -> Option<i64>
+    ensures { IfSome result (λ n. n ≡ int_value (scene_seen scene.now) scope.now (int_seen expr.now)) }
+{
+    number_at_hand(scene, scope, expr)
+}
+
 // How many cards a location has.
 #[inline(always)]
 fn size_at_hand(scene: &Scene, scope: &Bindings, expr: &CollExpr) -> Option<i64>
@@ -142,7 +161,7 @@ pub fn compared_at_hand(
         (int_value (scene_seen scene.now) scope.now (int_seen b.now))) }
 {
     match number_at_hand(scene, scope, a) {
-        Some(one) => match number_at_hand(scene, scope, b) {
+        Some(one) => match second_at_hand(scene, scope, b) {
             Some(other) => Some(compare(how, one, other)),
             None => None,
         },

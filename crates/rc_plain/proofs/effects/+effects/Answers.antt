@@ -73,7 +73,8 @@ do_all-do_effect-requires g t c κs within =
 pub for_players-change_in-requires-clause-well : goal.for_players-change_in-requires-clause-well
 for_players-change_in-requires-clause-well g t c =
     let are = c.requires.well (player_bound 0) in
-    (are.0, subst (λ es. AreEffects c.args.context.now.about.now.sheet are.0 (effects_seen es)) (sym c.deref.ensures.value) are.3)
+    let sheet = c.args.context.now.about.now.sheet in
+    (are.0, subst (λ es. AreEffects sheet are.0 (effects_seen es)) (sym c.deref.ensures.value) are.3)
 
 pub for_players-returns-in-Some-clause-does : goal.for_players-returns-in-Some-clause-does
 for_players-returns-in-Some-clause-does g t c =
@@ -85,8 +86,8 @@ for_players-returns-in-Some-clause-does g t c =
     let turns =
     subst (λ es. AreTurns context.about.now vars (frames_seen frames) (effects_seen es) (change_for c.in-Some.each))
     c.deref.ensures.value c.in-Some.ensures.turns in
-    all_turns context.about.now dealing vars (frames_seen frames) (effects_seen c.args.effects.now.items) (change_for c.in-Some.each)
-    turns
+    all_turns context.about.now dealing vars (frames_seen frames) (effects_seen c.args.effects.now.items)
+    (change_for c.in-Some.each) turns
     (point_of c.args.board.now.laid frames state) refl
     ∙ ap (λ (laid : Laid). point_of laid frames state) (sym c.change_each.ensures.leads)
 
