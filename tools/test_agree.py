@@ -328,6 +328,11 @@ class Runs(unittest.TestCase):
         seen = {watch_words(TEXT, Chance(seed)) for seed in range(200)}
         self.assertEqual(seen, {("watch", seat, match) for seat in "012" for match in "01"})
 
+    def test_words_name_seats_that_a_command_takes(self) -> None:
+        eight = b"match 0 deal 0 seats 0\n" + b"standing 1 strategy 0 points 0\n" * 8
+        words = [make(eight, Chance(seed)) for seed in range(200) for make in (watch_words, rival_words)]
+        self.assertEqual({it[1] for it in words}, set("01234567"))
+
     def test_a_sheet_that_is_printed_badly(self) -> None:
         self.assertEqual(len(self.said({("sheet",): End(1, b"", b"sheet Shape 0\n")})), 2)
 

@@ -11,6 +11,9 @@ Words = tuple[str, ...]
 
 ABSENT = End(10, b"", b"absent\n")
 
+# The last seat and the last strategy that a command's words may name.
+LAST = 7
+
 
 def stops_in(text: bytes) -> list[int]:
     """How many choices each match of a transcript has."""
@@ -23,12 +26,13 @@ def players_in(text: bytes) -> int:
 
 def watch_words(text: bytes, chance: Chance) -> Words:
     """A seat and a match, which mostly are there."""
-    return "watch", str(chance.randint(0, players_in(text) - (not chance.holds(0.05)))), str(chance.randint(0, len(stops_in(text)) - 1))
+    seat = min(LAST, chance.randint(0, players_in(text) - (not chance.holds(0.05))))
+    return "watch", str(seat), str(chance.randint(0, len(stops_in(text)) - 1))
 
 
 def rival_words(text: bytes, chance: Chance) -> Words:
     """A strategy, which mostly is there, how deep it searches and in how many rounds, and a key."""
-    strategy = chance.randint(0, players_in(text) - (not chance.holds(0.05)))
+    strategy = min(LAST, chance.randint(0, players_in(text) - (not chance.holds(0.05))))
     depth, key = chance.weighted(((3, 1), (4, 2), (2, 3), (1, 4))), chance.choice((0, 7, chance.randint(0, 10**18 - 1)))
     return "rival", str(strategy), str(depth), str(chance.randint(1, 3)), str(key)
 
