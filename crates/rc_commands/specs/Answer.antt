@@ -1,6 +1,7 @@
 -- What a command answers to its source. HasAnswer is the relation that holds of each source and its answers: exactly
--- one, but that the note may tell one number of hits or another where several workers play. What an accepted sheet is
--- answered, and with a plan, is IsAnswered. IsPrepared is what the program makes of a source before anybody plays.
+-- one, but that the note may tell one number of hits or another where several workers play, by SomeAnswer, OneAnswer
+-- and AnswersAreAlike of Laws.antt. What an accepted sheet is answered, and with a plan, is IsAnswered. IsPrepared is
+-- what the program makes of a source before anybody plays.
 use Rattle.std.specs.Prelude.{◌≡◌, ◌≤◌, ℕ, Bool, true, ◌&&◌, nat_lt, if◌then◌else◌, List, [], length, drop, codes}
 use Rattle.std.specs.Prelude.{Option, Some, None, is_some, Result, Ok, Err}
 use Rattle.rc_base.specs.Transcript.{line}
@@ -57,12 +58,13 @@ pub data Answer : Type 0 where
 -- The house text of a plan in the format that the options name: the plays of all matches in order, and the standings.
 -- It is house_text_in of rc_play_spec, a definition that knows of no book and no worker, so it is the same whoever
 -- plays, and whatever the book has. All other options have a part in the note and in the playouts alone: the note tells
--- how many looks there were, and how many of them hit.
+-- how many looks there were, and that `found` of them hit.
 abbrev pub house_played : Options → About → Plan → ℕ → Answer
 house_played options about plan found =
     text (house_text_in (is_named options.format) about plan) (looks_line (length (looks_of about plan)) found)
     (counted_playouts options (looks_of about plan))
 
+-- It is that answer, with a number of hits that there may be by these options.
 abbrev pub IsPlayed : Options → About → Plan → Answer → Type 0
 IsPlayed options about plan answer =
     (found : ℕ) × AreHits options (looks_of about plan) found × (answer ≡ house_played options about plan found)
@@ -94,14 +96,15 @@ abbrev pub judged_as : (legal : Answer) → Option Illegal → Answer
 judged_as legal None = legal
 judged_as legal (Some illegal) = refused (refusal.Illegal illegal.line (why_told illegal.why))
 
--- The answer to a transcript as it is read, with the bounds of items or without them: its first line outside the
--- grammar, or as it is judged.
+-- The answer to a transcript as it is read, with what its items bind or without that: its first line outside the
+-- grammar, or as it is judged. Lines are counted from the first of its head on.
 abbrev pub read_answer : Judging → (named : Bool) → About → Plan → Result NamedText ℕ → Answer
 read_answer asked named about plan (Err at) = refused (refusal.Text at)
 read_answer asked named about plan (Ok told) =
     judged_as (legal_answer asked about plan told.text)
     (first_illegal about dealing_of plan (length (format_by named about).head) told)
 
+-- the same of its bytes, read in one of the two formats
 abbrev pub answer_in : Judging → (named : Bool) → About → Plan → List ℕ → Answer
 answer_in asked named about plan bytes = read_answer asked named about plan (read_in (format_by named about) bytes)
 

@@ -63,6 +63,6 @@ options_of (Watch seat number) = usual_options
 options_of Measure = usual_options
 options_of (SearchesFor rival) = usual_options
 
--- how many threads are to play
+-- how many workers are to play
 abbrev pub workers_of : Command → ℕ
 workers_of command = (options_of command).workers

@@ -1,4 +1,5 @@
--- Statements of laws: what is answered to what was played.
+-- Statements of laws: what is answered to what was played. That this is legal as a value says PlayedLaws.antt of
+-- rc_play_spec.
 use Rattle.std.specs.Prelude.{◌≡◌, ℕ, Bool, List, [], ◌∷◌, ◌++◌, drop}
 use Rattle.rc_base.specs.Tree.{Tree}
 use Rattle.rc_sheet_spec.specs.Sheet.{Sheet}

@@ -22,7 +22,8 @@ use Rattle.rc_commands.specs.AcceptedPlan.{IsPlanAccepted}
 use Rattle.rc_commands.specs.Reading.{Reading, IsAcceptedWith}
 use Rattle.rc_commands.specs.Answer.{text, HasAnswer}
 
--- the item that a seat's strategy takes in match m: by the seed of the seats and the seat's view, and by nothing else
+-- The item that a seat's strategy takes in match m. For a sheet and a turn limit, which the about has, it is that
+-- strategy's function of the seed of the seats and the seat's view: nothing else of the match is handed to it.
 abbrev pub item_by_view : About → Plan → (m seat : ℕ) → Config → ℕ
 item_by_view about plan m seat c =
     choice_of about (strategy_at plan m seat) (deal_at plan m).seats (view_of about.shape seat c.table c.control)

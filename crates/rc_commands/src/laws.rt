@@ -33,8 +33,8 @@ pub fn a_printed_sheet_is_printed_again()
     ensures { PrintedAgain }
 {}
 
-/// The house text of an accepted sheet and plan is judged legal. So `check` answers to these with their house text
-/// behind them, and to a source with what `play` writes for it behind it in a new line.
+/// The house text of an accepted sheet and plan is judged legal. So `check` answers `legal` to these with their house
+/// text behind them, and to a source with what `play` writes for it behind it in a new line.
 pub fn what_is_played_is_judged_legal()
     ensures legal { PlayedIsLegal }
     ensures answered { PlayedIsAnsweredLegal }

@@ -31,7 +31,8 @@ WritesPlays (task.Watch seat number) before after status = Unit {0}
 WritesPlays task.Measure before after status = Unit {0}
 WritesPlays (task.Rival rival) before after status = Unit {0}
 
--- A source was read and answered.
+-- How a command that reads a source ended: in one of the ways of Outcome.antt; with the status of its answer, unless a
+-- port failed or memory ran out; and where `play` is done, with a text that tells plays.
 pub record Performs (task : Task) (before after : Ports) (steps steps' : ℕ) (status : Status) : Type 0 where
   pub outcome : Outcome task before after steps steps' status
   pub succeeds : Succeeds task before after status

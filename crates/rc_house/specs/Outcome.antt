@@ -30,7 +30,7 @@ Answers before after task P =
     (length source ≤ limit_of task) × (after.told ≡ Some [])
     × (answer : Answer) × HasAnswer task source answer × P answer)
 
--- The answer is a text with this note, Q holds of it, and so many steps were counted as it takes playouts.
+-- The answer is a text with this note, Q holds of its bytes, and so many steps were counted as it takes playouts.
 abbrev pub IsTextWith : List ℕ → ℕ → ℕ → (List ℕ → Type 0) → Answer → Type 0
 IsTextWith note steps steps' Q answer =
     (bytes : List ℕ) × (playouts : ℕ) × (answer ≡ text bytes note playouts) × (steps' ≡ steps + playouts) × Q bytes

@@ -20,7 +20,7 @@ port told faults = record { told = told; faults = faults }
 abbrev pub port_of : {A : Type 0} → (A → Option (List ℕ)) → (A → ℕ) → A → Port
 port_of told faults at = port (told at) (faults at)
 
--- what is said of a port before a call and behind it, said of a source or a sink
+-- A relation of a port before a call and behind it, where the port is this source or sink.
 abbrev pub between {ℓ} : {A : Type 0} {R : Type ℓ} → (A → Option (List ℕ)) → (A → ℕ) → A → A → (Port → Port → R) → R
 between told faults before after said = said (port_of told faults before) (port_of told faults after)
 

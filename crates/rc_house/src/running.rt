@@ -79,8 +79,8 @@ fn prepare_command<S: Source>(
     }
 }
 
-/// The text that tells of the matches that were played for a command, with this legend if it tells what items bind.
-/// Memory may run out.
+/// The text that tells of the matches that were played for a command, with this legend if it tells what items bind. The
+/// legend has whole lines. Memory may run out.
 fn told_text(
     alloc: Global,
     command: Command,
@@ -104,7 +104,8 @@ fn told_text(
     }
 }
 
-/// The house text of these matches in a format, with this legend if it tells what items bind. Memory may run out.
+/// The house text of these matches in a format, with this legend if it tells what items bind. The legend has whole
+/// lines. Memory may run out.
 fn series_text(
     alloc: Global,
     format: Format,
@@ -121,7 +122,8 @@ fn series_text(
     }
 }
 
-/// What a command answers where these matches were played for it, as its options say. Memory may run out.
+/// What a command answers where these matches were played for it, as its options say. The legend has whole lines.
+/// Memory may run out.
 fn played_answer(
     alloc: Global,
     command: Command,

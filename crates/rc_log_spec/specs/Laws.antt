@@ -31,7 +31,7 @@ FirstIsFault =
     (shape : Shape) (bytes : List ℕ) (n : ℕ) → IsSmall shape → IsFirstFaultOf shape bytes n →
     read_log shape bytes ≡ Err n
 
--- views of a seat that may stand in a log
+-- each of these views of a seat counts as one of a log, and there aren't too many
 abbrev pub AllCount : Shape → ℕ → List View → Type 0
 AllCount shape seat views = AllByRecursion (Counts shape seat) views × (length views ≤ largest_word)
 

@@ -94,9 +94,9 @@ abbrev pub IsLogSite : Option ℕ → Type 0
 IsLogSite (Some n) = n ≤ 63
 IsLogSite None = ⊥
 
--- A view of a seat as it may stand in a log: at a choice site, with as many counts of decisions, numbers and locations
--- as the shape has, with faces for each location that the seat sees and those that it knows for every other one, and
--- everything within its range.
+-- A view of a seat counts as one of a log, where it may stand in one: at a choice site, with as many counts of
+-- decisions, numbers and locations as the shape has, with faces for each location that the seat sees and those that it
+-- knows for every other one, and everything within its range.
 pub record Counts (shape : Shape) (seat : ℕ) (v : View) : Type 0 where
   pub of_seat : v.seat ≡ seat
   pub turn : v.control.turn ≤ largest_word

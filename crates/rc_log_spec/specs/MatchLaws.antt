@@ -38,7 +38,7 @@ ChoicesHaveViews =
     (about : About) (plan : Plan) (m seat : ℕ) (r : Record) → IsWatchable about → keyed_match about plan m ≡ Some r →
     length (views_of_match about plan m seat) ≡ length r.picks
 
--- and each may stand in a log
+-- and each counts as a view of a log
 abbrev pub MatchViewsCount : Type 0
 MatchViewsCount =
     (about : About) (plan : Plan) (m seat : ℕ) → IsWatchable about →

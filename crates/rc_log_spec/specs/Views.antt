@@ -13,7 +13,7 @@ use Rattle.rc_play_spec.specs.Keyed.{dealing_of, keyed_match}
 use Rattle.rc_log_spec.specs.Log.{LogText, log_text, log}
 
 module _ (about : About) (dealing : Dealing ℕ) (seat : ℕ) where
-  -- where these choices are made one after another from a stop on
+  -- what the seat sees before each of these choices, where they are made one after another from a stop on
   abbrev pub views_from : List Pick → Option (Stopped ℕ) → List View
   views_from [] at = []
   views_from (p ∷ picks) None = []
@@ -21,7 +21,7 @@ module _ (about : About) (dealing : Dealing ℕ) (seat : ℕ) where
       view_of about.shape seat at.config.table at.config.control
       ∷ views_from picks (stop_behind about dealing (choose about dealing at.dealer p.item at.config))
 
-  -- and from the start of the match
+  -- the same from the start of the match on
   abbrev pub views_in : List Pick → List View
   views_in picks = views_from picks (stop_of about dealing 0 (start about))
 

@@ -29,7 +29,7 @@ pub fn records_tell_views()
     ensures views { RecordsTellViews }
 {}
 
-/// A seat has a view for each choice of a match, and each of them may stand in a log.
+/// A seat has a view for each choice of a match, and each of them counts as a view of a log: it may stand in one.
 pub fn views_of_matches_count()
     ensures each { ChoicesHaveViews }
     ensures all { MatchViewsCount }

@@ -45,7 +45,7 @@ is_limit limit = true
 abbrev pub is_limited : Record → Bool
 is_limited r = is_limit r.ending
 
--- the turn counts in ascending order, and the one at a place
+-- the turn count at a place of all turn counts in ascending order
 abbrev pub turn_at : List Record → ℕ → ℕ
 turn_at records place = slice_index (ascending (map (λ r. r.turn) records)) place
 
@@ -55,10 +55,11 @@ turns_row records =
     let count = length records in
     numbers (turn_at records 0 ∷ turn_at records (count / 2) ∷ turn_at records (count - 1) ∷ [])
 
--- the sites with a choice, ascending
+-- a choice was made at this site
 abbrev pub is_met : List Record → ℕ → Bool
 is_met records site = nat_lt 0 (tally_where (at_site site) records).choices
 
+-- the sites with a choice, ascending
 unfoldable pub sites_met : List Record → List ℕ
 sites_met records = filter (is_met records) (below most_sites)
 

@@ -49,7 +49,8 @@ pub struct Measures {
     pub strategies: Vec<Vec<i64>>,
 }
 
-/// The measures of the matches of a plan.
+/// The measures of the matches of a plan, 1 to 4,096 of them. Each has a score within the clamp for each strategy, of
+/// which there are at most 8, and no more choices than the longest text has bytes.
 ///
 /// # Errors
 ///
@@ -61,6 +62,8 @@ pub fn measures_of(alloc: Global, plan: &Plan, matches: &[MatchRecord]) -> Resul
     requires scores { All (λ r. length r.scores.items ≡ length plan.now.strategies.items) matches.now }
     requires clamped { All (λ r. All (λ s. IsWithinClamp s.score) r.scores.items) matches.now }
     requires picks { All (λ r. length r.picks.items ≤ most_picks) matches.now }
+
+    // They are those that the definitions give.
     ensures measures { IfOk result (λ m. measures_seen m
         ≡ measured.measures_of (plan_seen plan.now) (map record_seen matches.now)) }
     ensures numbers { IfOk result (λ m. HasNumbers (measures_seen m)) }

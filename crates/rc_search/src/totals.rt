@@ -32,8 +32,8 @@ use std::alloc::Global;
 use std::sync::Arc;
 use std::sync::ledger::Ledger;
 
-/// What each item of the menu is worth to the seat over all rounds, so many decisions deep. No item is left out: each
-/// that there is is a step. Memory may run out.
+/// What each item of the menu is worth to the seat over all rounds, so many decisions deep. No item is left out,
+/// and each that is tried is a step. Memory may run out.
 pub fn plain_totals<L: Ledger>(
     alloc: Global,
     seen: &Seen,

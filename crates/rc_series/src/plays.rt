@@ -44,12 +44,19 @@ pub fn series_of<L: Ledger>(
     requires within { IsWithinLimits (plan_seen plan) }
     requires seats { length (plan_seen plan).strategies ≡ checked.players }
     requires capacity { (1 ≤ capacity) × (capacity ≤ most_entries) }
+
+    // The records are those that the definitions give for the plan's matches, in order, and the standings are theirs.
     ensures matches { IfOk result (λ series. map record_seen series.named.text.matches.items
         ≡ matches_of (about_of checked plan.turns) (plan_seen plan)) }
     ensures standings { IfOk result (λ series. map standing_seen series.named.text.standings.items
         ≡ standings_of (plan_seen plan) (matches_of (about_of checked plan.turns) (plan_seen plan))) }
+
+    // What choices bind is told as the definitions tell it, or not at all, where it isn't to be noted.
     ensures named { IfOk result (λ series. IsTold noted (about_of checked plan.turns) (plan_seen plan) series.named) }
     ensures book { IfOk result (λ series. (series.totals.capacity ≡ capacity) × (series.totals.lanes ≡ 1)) }
+
+    // Each rollout decision of these matches is one look, and as many of them hit, and as many playouts are counted for
+    // the others, as where they are made in order in a list of so many entries.
     ensures looks { IfOk result (λ series. series.totals.looks
         ≡ length (looks_of (about_of checked plan.turns) (plan_seen plan))) }
     ensures hits { IfOk result (λ series. series.totals.hits
