@@ -10,12 +10,13 @@ ghost use Rattle.rc_code.specs.Seen.{code_seen};
 ghost use Rattle.rc_code.specs.Stands.{StandsFor};
 
 use crate::machine::FlatMachine;
-use crate::{Stand, place_of, site_of, write_control};
+use crate::{Stand, place_of, write_control};
 use rc_code::{Code, sites_are_placed};
 use rc_deck::Memory;
 use rc_rules::{About, Bounds, Control, Dealer, Items, Machine, Menu, Scores, Stop};
 use rc_table::Table;
 use rc_undo::Board;
+use rc_value::site_of;
 use std::alloc::Global;
 use std::marker::Model;
 use std::sync::Arc;

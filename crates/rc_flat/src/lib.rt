@@ -26,7 +26,7 @@ pub use machine::FlatMachine;
 pub use marks::Mark;
 pub use moments::Moment;
 pub use place::ProgramCounter;
-pub use site::{place_of, site_of};
+pub use site::place_of;
 pub use stand::{Stand, write_control, write_menu};
 pub use state::State;
 pub use there::{ChoiceThere, StageThere, behind, choice_there};

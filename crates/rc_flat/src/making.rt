@@ -13,14 +13,14 @@ ghost use Rattle.rc_flat.specs.MarkedMoments.{IsInMatch};
 
 use crate::machine::FlatMachine;
 use crate::undoing::refill;
-use crate::{ProgramCounter, State, place_of, site_of};
+use crate::{ProgramCounter, State, place_of};
 use rc_code::{Code, sites_are_placed, standing_code_implements};
 use rc_deck::Memory;
 use rc_flow::Checked;
 use rc_rules::{About, Control, Items};
 use rc_table::{Shape, Table};
 use rc_undo::Board;
-use rc_value::{Current, new_control};
+use rc_value::{Current, about_of, new_control, site_of};
 use std::alloc::Global;
 use std::sync::Arc;
 
@@ -218,20 +218,4 @@ impl FlatMachine {
             spent: false,
         }
     }
-}
-
-// What the match is played by.
-fn about_of(
-    alloc: Global,
-    checked: &Arc<Checked>,
-    shape: &Arc<Shape>,
-    turns: u32,
-) -> Result<About, Memory>
-    requires { shape.now.value ≡ shape_of checked.now.value }
-    ensures { IfOk result (λ about. about
-        ≡ record { sheet = checked.now.value; shape = shape.now.value; turns = turns }) }
-{
-    let checked = Arc::try_clone(checked)?;
-    let shape = Arc::try_clone(shape)?;
-    About::new(alloc, checked, shape, turns)
 }

@@ -13,13 +13,13 @@ ghost use Rattle.rc_flat.specs.Moments.{IsMoment, StaysInMatch, with_table};
 
 use crate::machine::FlatMachine;
 use crate::undoing::refill;
-use crate::{Stand, place_of, site_of, write_control, write_menu};
+use crate::{Stand, place_of, write_control, write_menu};
 use rc_code::{Code, sites_are_placed};
 use rc_deck::Memory;
 use rc_rules::{About, Control, Items};
 use rc_table::Table;
 use rc_undo::Board;
-use rc_value::Current;
+use rc_value::{Current, site_of};
 use std::alloc::Global;
 use std::sync::Arc;
 

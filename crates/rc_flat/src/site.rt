@@ -1,5 +1,5 @@
 //! The place of a choice site in the code.
-ghost use Rattle.std.specs.Prelude.{◌≡◌, ◌≤◌, IsSome, Some, length, slice_get};
+ghost use Rattle.std.specs.Prelude.{◌≡◌, ◌≤◌, Some, length, slice_get};
 ghost use Rattle.rc_code.specs.Instruction.{SitePlace as PurePlace};
 ghost use Rattle.rc_code.specs.Seen.{code_seen, place_seen};
 ghost use Rattle.rc_code.specs.Implements.{path_to};
@@ -7,18 +7,6 @@ ghost use Rattle.rc_code.specs.Implements.{path_to};
 use crate::place::ProgramCounter;
 use arrayvec::ArrayVec;
 use rc_code::{Code, SitePlace};
-use rc_rules::Control;
-
-/// The site of a control that has one.
-pub fn site_of(control: &Control) -> u8
-    requires { IsSome control.now.site }
-    ensures { control.now.site ≡ Some result }
-{
-    match control.site {
-        Some(site) => site,
-        None => unreachable!(),
-    }
-}
 
 /// The place of the choice with this site.
 pub fn place_of(code: &Code, site: u8) -> ProgramCounter

@@ -13,7 +13,7 @@ ghost use Rattle.rc_rules.specs.Machine.{StopsAtDecision, IsWhereItStops, bounds
 ghost use Rattle.rc_plain.specs.Plain.{config_of};
 
 use crate::path::Path;
-use crate::site::{path_of, site_of};
+use crate::site::path_of;
 use crate::state::{PlainState, current_in};
 use rc_deck::Memory;
 use rc_flow::Checked;
@@ -22,7 +22,7 @@ use rc_play_spec::sites_fix_choices;
 use rc_rules::{About, Bounds, Control, Dealer, Items, Machine, Menu, Scores, Stop};
 use rc_table::{Shape, Table};
 use rc_undo::Board;
-use rc_value::{Current, new_control, scores_now};
+use rc_value::{Current, about_of, new_control, scores_now, site_of};
 use std::alloc::Global;
 use std::marker::Model;
 use std::sync::Arc;
@@ -187,22 +187,6 @@ impl PlainMachine {
             },
         }
     }
-}
-
-// What the match is played by.
-fn about_of(
-    alloc: Global,
-    checked: &Arc<Checked>,
-    shape: &Arc<Shape>,
-    turns: u32,
-) -> Result<About, Memory>
-    requires { shape.now.value ≡ shape_of checked.now.value }
-    ensures { IfOk result (λ about. about
-        ≡ record { sheet = checked.now.value; shape = shape.now.value; turns = turns }) }
-{
-    let checked = Arc::try_clone(checked)?;
-    let shape = Arc::try_clone(shape)?;
-    About::new(alloc, checked, shape, turns)
 }
 
 impl Machine for PlainMachine {

@@ -1,5 +1,5 @@
 //! The path to a choice.
-ghost use Rattle.std.specs.Prelude.{◌≡◌, ℕ, ◌+◌, ◌<◌, ◌≤◌, [], length, Some, IsSome, IfSome, IfNone};
+ghost use Rattle.std.specs.Prelude.{◌≡◌, ℕ, ◌+◌, ◌<◌, ◌≤◌, [], length, IfSome, IfNone};
 ghost use Rattle.rc_play_spec.specs.Menu.{alts_at};
 ghost use Rattle.rc_play_spec.specs.Path.{items_depth};
 ghost use Rattle.rc_ast.specs.Items.{items_seen};
@@ -9,18 +9,7 @@ use crate::path::{Path, Places};
 use arrayvec::ArrayVec;
 use rc_ast::SheetItem;
 use rc_play_spec::few_stages_are_open;
-use rc_rules::{About, Control};
-
-/// The site of a control that has one.
-pub fn site_of(control: &Control) -> u8
-    requires { IsSome control.now.site }
-    ensures { control.now.site ≡ Some result }
-{
-    match control.site {
-        Some(site) => site,
-        None => unreachable!(),
-    }
-}
+use rc_rules::About;
 
 /// The path to the choice with this site, where there is one.
 pub fn path_of(about: &About, site: u8) -> Path

@@ -27,7 +27,36 @@ use std::sync::ledger::Ledger;
 /// The item that the strategy of a need chooses. For a rollout it asks the memo once. Where the memo has no totals they
 /// are played out on the code, which stands for the sheet, a step for each playout, and given to the memo to keep.
 /// Memory may run out.
-pub(crate) fn choose<M: Memo, L: Ledger>(
+pub fn choose<M: Memo, L: Ledger>(
+    alloc: Global,
+    need: &Need,
+    code: &Arc<Code>,
+    memo: &mut M,
+    steps: &mut Steps<L>,
+) -> Result<u16, Memory>
+    requires served { Serves (M.serves memo.old) (need_seen need.now).about }
+    requires need { IsNeed (need_seen need.now) }
+    requires code { StandsFor (need_seen need.now).about.sheet (code_seen code.now.value) }
+    ensures choice { IfOk result (λ item. item
+        ≡ choice_of (need_seen need.now).about (need_seen need.now).strategy (need_seen need.now).seed
+        (need_seen need.now).view) }
+    ensures counted { OnOk result (Chooses (need_seen need.now) (M.counts memo.old)
+        (M.counts memo.new) steps.old steps.new) }
+    ensures lacking { OnErr result (AsksSome (asked_for (need_seen need.now)) (M.counts memo.old)
+        (M.counts memo.new) steps.old steps.new) }
+    ensures rises { steps.old ≤ steps.new }
+    ensures bounded { steps.new ≤ steps.old + most_steps (need_seen need.now) }
+    ensures same { M.serves memo.new ≡ M.serves memo.old }
+    ensures named { M.name memo.new ≡ M.name memo.old }
+{
+    let about = Arc::try_clone(&need.about)?;
+    let copy = need.copy(alloc)?;
+    let mut ground = Ground::new(about);
+    choose_on(alloc, copy, code, &mut ground, memo, steps)
+}
+
+/// The same on what earlier playouts for the same about left, of a need whose view becomes the key's.
+pub(crate) fn choose_on<M: Memo, L: Ledger>(
     alloc: Global,
     need: Need,
     code: &Arc<Code>,

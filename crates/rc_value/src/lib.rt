@@ -38,6 +38,7 @@ mod scoring;
 mod shuffles;
 mod sought;
 mod stages;
+mod starting;
 mod tests;
 mod wanted;
 
@@ -70,6 +71,7 @@ pub use scope::{Bind, Bindings};
 pub use scoring::{code_has_ended, has_ended, scores_now};
 pub use shuffles::places;
 pub use sought::{Sought, are_as_sought};
+pub use starting::{about_of, site_of};
 pub use tests::{sought_of, test_of};
 pub use wanted::{
     WantedValue, are_met_in, equal_at, is_fixed_collection, is_fixed_owner, is_so, wanted_at,
