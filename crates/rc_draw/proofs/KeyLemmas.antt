@@ -1,9 +1,8 @@
--- The words of keys of four numbers, and keys that differ in the lower half of the last.
-use Rattle.std.proofs.Common.{◌≡◌, ℕ, ◌+◌, ◌*◌, ◌/◌, ◌%◌, ◌^◌, ◌<◌, List, [], ◌∷◌, arith, refl, sym, ap₂, ◌∙◌}
+-- The words of keys of four numbers.
+use Rattle.std.proofs.Common.{◌≡◌, ℕ, ◌+◌, ◌*◌, ◌/◌, ◌%◌, ◌^◌, ◌<◌, List, [], ◌∷◌, arith, refl, ap₂, ◌∙◌}
 use Rattle.rand_core.specs.Steps.{u32_at}
 use Rattle.rand_chacha.specs.ChaCha.{key_of}
 use Rattle.rc_play_spec.specs.Draws.{key32}
-use Rattle.rc_draw.specs.Neighbours.{neighbour}
 
 low_bytes : (n : ℕ) → n % 256 + n / 256 ^ 1 % 256 * 2 ^ 8 + n / 256 ^ 2 % 256 * 2 ^ 16 + n / 256 ^ 3 % 256 * 2 ^ 24 ≡ n % 4294967296
 low_bytes n = omega arith
@@ -13,24 +12,32 @@ high_bytes : (n : ℕ) → n < 2 ^ 64 →
 high_bytes n less = omega (arith, less)
 
 -- the words of a key: the lower and the upper half of each of its numbers
-abbrev halves : ℕ → ℕ → ℕ → ℕ → List ℕ
-halves a b c d =
+abbrev words_from : ℕ → ℕ → ℕ → ℕ → ℕ → List ℕ
+words_from a b c lower upper =
     a % 4294967296 ∷ a / 4294967296 ∷ b % 4294967296 ∷ b / 4294967296
-    ∷ c % 4294967296 ∷ c / 4294967296 ∷ d % 4294967296 ∷ d / 4294967296 ∷ []
+    ∷ c % 4294967296 ∷ c / 4294967296 ∷ lower ∷ upper ∷ []
 
-words_of_key : (a b c d : ℕ) → a < 2 ^ 64 → b < 2 ^ 64 → c < 2 ^ 64 → d < 2 ^ 64 → key_of (key32 a b c d) ≡ halves a b c d
+words_of_key : (a b c d : ℕ) → a < 2 ^ 64 → b < 2 ^ 64 → c < 2 ^ 64 → d < 2 ^ 64 →
+    key_of (key32 a b c d) ≡ words_from a b c (d % 4294967296) (d / 4294967296)
 unfolding u32_at
 words_of_key a b c d la lb lc ld =
-    rw (low_bytes a, high_bytes a la, low_bytes b, high_bytes b lb, low_bytes c, high_bytes c lc, low_bytes d, high_bytes d ld) refl
+    rw (
+      low_bytes a,
+      high_bytes a la,
+      low_bytes b,
+      high_bytes b lb,
+      low_bytes c,
+      high_bytes c lc,
+      low_bytes d,
+      high_bytes d ld,
+    ) refl
 
--- Where the lower half of the last number counts up, modulo 2 ^ 32, the keys are neighbours.
-pub neighbours_count_up : (a b c upper lower j : ℕ) → a < 2 ^ 64 → b < 2 ^ 64 → c < 2 ^ 64 → upper < 2 ^ 32 →
-    neighbour (a % 4294967296 ∷ a / 4294967296 ∷ b % 4294967296 ∷ b / 4294967296 ∷ c % 4294967296 ∷ c / 4294967296 ∷ lower ∷ upper ∷ []) j
-    ≡ key_of (key32 a b c (upper * 4294967296 + (lower + j) % 4294967296))
-neighbours_count_up a b c upper lower j la lb lc lu =
-    let d = upper * 4294967296 + (lower + j) % 4294967296 in
-    let fits : d < 2 ^ 64 = omega (arith, lu) in
-    let low : d % 4294967296 ≡ (lower + j) % 4294967296 = omega arith in
-    let high : d / 4294967296 ≡ upper = omega arith in
-    sym (words_of_key a b c d la lb lc fits
-    ∙ ap₂ (λ x y. a % 4294967296 ∷ a / 4294967296 ∷ b % 4294967296 ∷ b / 4294967296 ∷ c % 4294967296 ∷ c / 4294967296 ∷ x ∷ y ∷ []) low high)
+pub words_of_numbered : (a b c upper number : ℕ) →
+    a < 2 ^ 64 → b < 2 ^ 64 → c < 2 ^ 64 → upper < 2 ^ 32 → number < 2 ^ 32 →
+    key_of (key32 a b c (upper * 4294967296 + number)) ≡ words_from a b c number upper
+words_of_numbered a b c upper number la lb lc lu ln =
+    let d = upper * 4294967296 + number in
+    let fits : d < 2 ^ 64 = omega (arith, lu, ln) in
+    let low : d % 4294967296 ≡ number = omega (arith, ln) in
+    let high : d / 4294967296 ≡ upper = omega (arith, ln) in
+    words_of_key a b c d la lb lc fits ∙ ap₂ (words_from a b c) low high

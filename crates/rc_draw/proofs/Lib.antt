@@ -1,5 +1,4 @@
 mod ShuffleSteps
 mod RowLemmas
 mod KeyLemmas
-pub mod LaneLemmas
 mod BlockLemmas

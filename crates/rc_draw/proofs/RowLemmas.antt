@@ -1,8 +1,34 @@
-use Rattle.std.proofs.Common.{◌≡◌, ℕ, ◌<◌, ◌-◌, ◌*◌, ◌/◌, ◌%◌, ◌^◌, List, [], ◌∷◌, length, ◌++◌, slice_index, get_or, bit_or, bit_xor, arith, refl}
+use Rattle.std.proofs.Common.{◌≡◌, ℕ, zero, suc, ◌<◌, ◌+◌, ◌-◌, ◌*◌, ◌/◌, ◌%◌, ◌^◌, List, [], ◌∷◌, ◌++◌}
+use Rattle.std.proofs.Common.{length, slice_index, get_or, bit_or, bit_xor, arith, refl, subst}
 use Rattle.std.specs.Simd.Lanes.{zip2}
 use Rattle.rand_chacha.specs.Block.{xor_rotate}
 use Rattle.rc_draw.specs.Rows.{words_of}
-use Rattle.rc_draw.proofs.LaneLemmas.{below_four, four_lanes}
+
+-- what holds of each of the four words of a row
+pub below_four : (P : ℕ → Type 0) → P 0 → P 1 → P 2 → P 3 → (j : ℕ) → j < 4 → P j
+below_four P p0 p1 p2 p3 zero h = p0
+below_four P p0 p1 p2 p3 (suc zero) h = p1
+below_four P p0 p1 p2 p3 (suc (suc zero)) h = p2
+below_four P p0 p1 p2 p3 (suc (suc (suc zero))) h = p3
+below_four P p0 p1 p2 p3 (suc (suc (suc (suc n)))) h = absurd (omega arith)
+
+-- what holds of each of the sixteen words of a state
+pub below_sixteen : (P : ℕ → Type 0) → P 0 → P 1 → P 2 → P 3 → P 4 → P 5 → P 6 → P 7
+    → P 8 → P 9 → P 10 → P 11 → P 12 → P 13 → P 14 → P 15 → (k : ℕ) → k < 16 → P k
+below_sixteen P a0 a1 a2 a3 b0 b1 b2 b3 c0 c1 c2 c3 d0 d1 d2 d3 k h =
+    let place : 4 * (k / 4) + k % 4 ≡ k = omega arith in
+    subst P place (below_four (λ row. (col : ℕ) → col < 4 → P (4 * row + col))
+    (below_four _ a0 a1 a2 a3) (below_four _ b0 b1 b2 b3) (below_four _ c0 c1 c2 c3) (below_four _ d0 d1 d2 d3)
+    (k / 4) (omega arith) (k % 4) (omega arith))
+
+-- what holds of each list of four elements
+pub four_words : (P : List ℕ → Type 0) → ((a b c d : ℕ) → P (a ∷ b ∷ c ∷ d ∷ [])) → (xs : List ℕ) → length xs ≡ 4 → P xs
+four_words P p (a ∷ b ∷ c ∷ d ∷ []) h = p a b c d
+four_words P p [] h = absurd (omega arith)
+four_words P p (a ∷ []) h = absurd (omega arith)
+four_words P p (a ∷ b ∷ []) h = absurd (omega arith)
+four_words P p (a ∷ b ∷ c ∷ []) h = absurd (omega arith)
+four_words P p (a ∷ b ∷ c ∷ d ∷ e ∷ xs) h = absurd (omega arith)
 
 -- two shifts of each word and an or are a rotation
 abbrev Rotates : ℕ → List ℕ → List ℕ → Type 0
@@ -16,8 +42,8 @@ pub shifts_rotate : (k : ℕ) → 0 < k → k < 32 → (a : List ℕ) → length
 shifts_rotate k low high =
     let left : k % 32 ≡ k = omega arith in
     let right : (32 - k) % 32 ≡ 32 - k = omega arith in
-    four_lanes (λ a. (b : List ℕ) → length b ≡ 4 → Rotates k a b) (λ a0 a1 a2 a3.
-    four_lanes (Rotates k (a0 ∷ a1 ∷ a2 ∷ a3 ∷ [])) (λ b0 b1 b2 b3.
+    four_words (λ a. (b : List ℕ) → length b ≡ 4 → Rotates k a b) (λ a0 a1 a2 a3.
+    four_words (Rotates k (a0 ∷ a1 ∷ a2 ∷ a3 ∷ [])) (λ b0 b1 b2 b3.
     below_four _ (rw (left, right) refl) (rw (left, right) refl) (rw (left, right) refl) (rw (left, right) refl)))
 
 -- a row whose words are taken at these places of the row and the row once more
@@ -26,12 +52,12 @@ taken xs i j k l = get_or (xs ++ xs) i 0 ∷ get_or (xs ++ xs) j 0 ∷ get_or (x
 
 pub left_one : (xs : List ℕ) → length xs ≡ 4 → words_of (taken xs 1 2 3 0) ≡ (slice_index xs 1, slice_index xs 2, slice_index xs 3, slice_index xs 0)
 left_one =
-    four_lanes (λ xs. words_of (taken xs 1 2 3 0) ≡ (slice_index xs 1, slice_index xs 2, slice_index xs 3, slice_index xs 0)) (λ a b c d. refl)
+    four_words (λ xs. words_of (taken xs 1 2 3 0) ≡ (slice_index xs 1, slice_index xs 2, slice_index xs 3, slice_index xs 0)) (λ a b c d. refl)
 
 pub left_two : (xs : List ℕ) → length xs ≡ 4 → words_of (taken xs 2 3 0 1) ≡ (slice_index xs 2, slice_index xs 3, slice_index xs 0, slice_index xs 1)
 left_two =
-    four_lanes (λ xs. words_of (taken xs 2 3 0 1) ≡ (slice_index xs 2, slice_index xs 3, slice_index xs 0, slice_index xs 1)) (λ a b c d. refl)
+    four_words (λ xs. words_of (taken xs 2 3 0 1) ≡ (slice_index xs 2, slice_index xs 3, slice_index xs 0, slice_index xs 1)) (λ a b c d. refl)
 
 pub left_three : (xs : List ℕ) → length xs ≡ 4 → words_of (taken xs 3 0 1 2) ≡ (slice_index xs 3, slice_index xs 0, slice_index xs 1, slice_index xs 2)
 left_three =
-    four_lanes (λ xs. words_of (taken xs 3 0 1 2) ≡ (slice_index xs 3, slice_index xs 0, slice_index xs 1, slice_index xs 2)) (λ a b c d. refl)
+    four_words (λ xs. words_of (taken xs 3 0 1 2) ≡ (slice_index xs 3, slice_index xs 0, slice_index xs 1, slice_index xs 2)) (λ a b c d. refl)

@@ -1,5 +1,3 @@
 pub mod Purposes
 pub mod Rows
-pub mod Kept
-pub mod Neighbours
 pub mod Sequence

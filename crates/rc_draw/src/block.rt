@@ -12,25 +12,33 @@ use std::simd::u32x4;
 /// How many words a block has.
 pub(crate) const BLOCK_WORDS: usize = 16;
 
-/// The state that a block of a key is made of.
+/// The eight words of a key.
 #[inline(always)]
-pub(crate) fn first_rows(key: &[u8; 32], number: u32) -> StateRows
-    ensures { state_of result ≡ initial_state (key_of key.now) number 0 }
+pub(crate) fn words_of_key(key: &[u8; 32]) -> [u32; 8]
+    ensures { result ≡ key_of key.now }
 {
+    [
+        read_u32(key, 0),
+        read_u32(key, 1),
+        read_u32(key, 2),
+        read_u32(key, 3),
+        read_u32(key, 4),
+        read_u32(key, 5),
+        read_u32(key, 6),
+        read_u32(key, 7),
+    ]
+}
+
+/// The state that a block of the key of these words is made of.
+#[inline(always)]
+pub(crate) fn first_rows(key: [u32; 8], number: u32) -> StateRows
+    ensures { state_of result ≡ initial_state key number 0 }
+{
+    let [k0, k1, k2, k3, k4, k5, k6, k7] = key;
     (
         u32x4::from_array([0x6170_7865, 0x3320_646e, 0x7962_2d32, 0x6b20_6574]),
-        u32x4::from_array([
-            read_u32(key, 0),
-            read_u32(key, 1),
-            read_u32(key, 2),
-            read_u32(key, 3),
-        ]),
-        u32x4::from_array([
-            read_u32(key, 4),
-            read_u32(key, 5),
-            read_u32(key, 6),
-            read_u32(key, 7),
-        ]),
+        u32x4::from_array([k0, k1, k2, k3]),
+        u32x4::from_array([k4, k5, k6, k7]),
         u32x4::from_array([number, 0, 0, 0]),
     )
 }
@@ -52,7 +60,7 @@ pub(crate) fn last_rows(first: StateRows) -> StateRows
 pub(crate) fn words_of_block(key: &[u8; 32], number: u32) -> [u32; 16]
     ensures { (j : ℕ) → j < 16 → slice_index result j ≡ draws.word_of key.now (16 * number + j) }
 {
-    let first = first_rows(key, number);
+    let first = first_rows(words_of_key(key), number);
     let last = last_rows(first);
     let [a0, a1, a2, a3] = add(last.0, first.0).to_array();
     let [b0, b1, b2, b3] = add(last.1, first.1).to_array();

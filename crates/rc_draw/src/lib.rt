@@ -1,14 +1,12 @@
 //! Draws: keys made of four numbers, and the picks and the shuffles that a key decides.
 //!
 //! A key has a sequence of words of 32 bits, those of the generator ChaCha8. What is drawn by a key depends on the key
-//! alone. Of numbered keys the words are generated four at a time, side by side in the lanes of vectors, and for a
-//! shuffle in blocks of 16, as many as it takes.
+//! alone. For a pick its first word is generated, and for a shuffle blocks of 16 words, as many as it takes.
 //!
 //! Stands on rc_play_spec, never on rc_ast.
 #![tactic(auto)]
 
 mod block;
-mod lanes;
 mod purpose;
 mod rounds;
 mod sequence;
@@ -21,7 +19,7 @@ ghost use Rattle.rc_base.specs.Numbers.{below};
 ghost use Rattle.rc_play_spec.specs.Draws as draws;
 ghost use Rattle.rc_play_spec.specs.Table.{taken};
 
-use crate::block::{BLOCK_WORDS, words_of_block};
+use crate::block::{BLOCK_WORDS, words_of_block, words_of_key};
 use crate::word::{WORDS, first_word};
 pub use purpose::Purpose;
 use rc_play_spec::keys_pick_and_permute;
@@ -58,7 +56,7 @@ pub fn pick_by(key: &[u8; 32], n: u32) -> u32
         keys_pick_and_permute();
         return 0;
     }
-    scale_word(first_word(key), n)
+    scale_word(first_word(words_of_key(key)), n)
 }
 
 // Goes on with a shuffle by the words of a block: for each place from the last one left down to the second, as long as

@@ -1,6 +1,6 @@
 //! The first word of a key.
 ghost use Rattle.std.specs.Prelude.{◌≡◌};
-ghost use Rattle.rc_play_spec.specs.Draws as draws;
+ghost use Rattle.rand_chacha.specs.ChaCha.{word_at};
 
 use crate::block::{first_rows, last_rows};
 use crate::rounds::add;
@@ -8,10 +8,11 @@ use crate::rounds::add;
 /// How many words there are.
 pub(crate) const WORDS: u64 = 1 << 32;
 
-/// The first word of a key. The generator makes four blocks of words at a time, and this makes no more than this word
-/// takes.
-pub(crate) fn first_word(key: &[u8; 32]) -> u32
-    ensures { result ≡ draws.word_of key.now 0 }
+/// The first word of the key of these words. It stands in line, so that the compiler leaves out what this word doesn't
+/// need of the last round, and makes once what the keys of a loop have in common.
+#[inline(always)]
+pub(crate) fn first_word(key: [u32; 8]) -> u32
+    ensures { result ≡ word_at 4 key 0 0 }
 {
     let first = first_rows(key, 0);
     let last = last_rows(first);

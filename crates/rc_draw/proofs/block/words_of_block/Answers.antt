@@ -1,14 +1,14 @@
 use Rattle.std.proofs.Common.{ap, ap₂, slice_index, slice_index_or, [], ◌∷◌, ◌∙◌, arith}
-use Rattle.rand_chacha.specs.Block.{add32, double_rounds, block_word}
+use Rattle.rand_chacha.specs.Block.{add32, double_rounds, initial_state, block_word}
 use Rattle.rand_chacha.specs.ChaCha.{key_of}
-use Rattle.rc_draw.proofs.LaneLemmas.{below_sixteen}
+use Rattle.rc_draw.proofs.RowLemmas.{below_sixteen}
 use Rattle.rc_draw.proofs.BlockLemmas.{words_in_block}
 use Rattle.rc_draw.proofs.block.words_of_block.Goals as goal
 
 pub returns : goal.returns
 unfolding block_word
 returns c =
-    let first = c.first_rows-first.ensures in
+    let first = c.first_rows-first.ensures ∙ ap (λ key. initial_state key c.args.number 0) c.words_of_key.ensures in
     let last = c.last_rows-last.ensures ∙ ap (double_rounds 4) first in
     let words = slice_index_or c.add.result 0 0 ∷ slice_index_or c.add.result 1 0
     ∷ slice_index_or c.add.result 2 0 ∷ slice_index_or c.add.result 3 0
