@@ -21,7 +21,7 @@ not_top (min_card cards map) is = refl
 
 not_number : (n : IntExpr) → is_at_hand n ≡ false → is_fixed_number n ≡ false
 not_number (literal value) is = absurd (true≢false is)
-not_number (number num) is = refl
+not_number (number num) is = absurd (true≢false is)
 not_number (size_of cards) is = not_location cards is
 not_number (sum_of cards map) is = refl
 not_number (worth_of card map) is = not_top card is

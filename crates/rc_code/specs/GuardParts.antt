@@ -1,6 +1,6 @@
 -- Which alternatives have a guard in parts.
 use Rattle.std.specs.Prelude.{ℕ, nat_eq, nat_le, Bool, true, false, ◌&&◌, ◌||◌, length}
-use Rattle.rc_sheet_spec.specs.Sheet.{Who, game, current_player, current_team, team_of_current, team_of_var, who_var, CardExpr, card_var, top_card, CollExpr, cards_in, IntExpr, literal, size_of, worth_of, Test, eq_int, eq_attr, less, less_eq, more, more_eq, has_value, ne, not_of, and_of, or_of, any_of, Tests, no_test, test, Domain, each_card, Alt, if_alt, any_alt}
+use Rattle.rc_sheet_spec.specs.Sheet.{Who, game, current_player, current_team, team_of_current, team_of_var, who_var, CardExpr, card_var, top_card, CollExpr, cards_in, IntExpr, literal, number, size_of, worth_of, Test, eq_int, eq_attr, less, less_eq, more, more_eq, has_value, ne, not_of, and_of, or_of, all_of, any_of, Tests, no_test, test, Domain, each_card, Alt, if_alt, any_alt}
 use Rattle.rc_sheet_spec.specs.Lists.{test_list}
 
 -- an owner that no variable stands for, the cards of a location of such an owner, and the top one of them
@@ -24,9 +24,10 @@ abbrev pub is_fixed_domain : Domain → Bool
 is_fixed_domain (each_card cards) = is_fixed_location cards
 is_fixed_domain domain = false
 
--- A number that is written out, or read off such a location. Of those that the game keeps none counts here.
+-- a number that is written out, that the game keeps for such an owner, or that is read off such a location
 abbrev pub is_fixed_number : IntExpr → Bool
 is_fixed_number (literal value) = true
+is_fixed_number (number num) = is_fixed_who num.who
 is_fixed_number (size_of cards) = is_fixed_location cards
 is_fixed_number (worth_of card map) = is_fixed_top card
 is_fixed_number n = false
@@ -51,30 +52,38 @@ is_card_test place (eq_attr a attr b attr') = is_the_variable place a && is_fixe
 is_card_test place (has_value card attr value) = is_the_variable place card
 is_card_test place t = false
 
--- whether a card of such a location passes such a test, whether the offered one does, or such a comparison
+-- a test, or the opposite of one
+abbrev pub in_some_sense : (Test → Bool) → Test → Bool
+in_some_sense is (ne t) = is t
+in_some_sense is (not_of t) = is t
+in_some_sense is t = is t
+
+-- Whether one of the cards of such a location, or each of them, passes such a test or its opposite; whether the top one has a
+-- value; or such a comparison.
+abbrev pub is_fixed_condition : Test → Bool
+is_fixed_condition (any_of domain bound t) = is_fixed_domain domain && in_some_sense (is_card_test 1) t
+is_fixed_condition (all_of domain bound t) = is_fixed_domain domain && in_some_sense (is_card_test 1) t
+is_fixed_condition (has_value card attr value) = is_fixed_top card
+is_fixed_condition t = is_fixed_comparison t
+
+-- such a one, or whether the offered card passes such a test
 abbrev pub is_condition : Test → Bool
-is_condition (any_of domain bound t) = is_fixed_domain domain && is_card_test 1 t
-is_condition t = is_card_test 0 t || is_fixed_comparison t
+is_condition t = is_card_test 0 t || is_fixed_condition t
 
--- a condition, or its opposite
-abbrev pub is_part : Test → Bool
-is_part (ne t) = is_condition t
-is_part (not_of t) = is_condition t
-is_part t = is_condition t
-
+-- conditions, or their opposites
 abbrev pub are_parts : Tests → Bool
 are_parts no_test = true
-are_parts (test t tests) = is_part t && are_parts tests
+are_parts (test t tests) = in_some_sense is_condition t && are_parts tests
 
 -- at most four parts
 abbrev pub are_few_parts : Tests → Bool
 are_few_parts tests = nat_le (length (test_list tests)) 4 && are_parts tests
 
--- all of them, or one of them, are to hold
+-- all of them are to hold, or one of them, or a sole one
 abbrev pub is_in_parts : Test → Bool
 is_in_parts (and_of tests) = are_few_parts tests
 is_in_parts (or_of tests) = are_few_parts tests
-is_in_parts t = false
+is_in_parts t = in_some_sense is_condition t
 
 abbrev pub is_guarded : Alt → Bool
 is_guarded (if_alt guard effects) = is_in_parts guard

@@ -1,6 +1,6 @@
 -- What the parts of a guard stand for, and of which alternatives a guard in parts is the guard.
-use Rattle.std.specs.Prelude.{◌≡◌, ℕ, map, All, ⊤, if◌then◌else◌}
-use Rattle.rc_sheet_spec.specs.Sheet.{Alt, Effects, Test, Who, game, current_player, current_team, team_of_current, team_of_var, who_var, Loc, card_var, top_card, cards_in, eq_attr, any_of, each_card, has_value, ne, not_of, and_of, or_of, any_alt, if_alt}
+use Rattle.std.specs.Prelude.{◌≡◌, ℕ, List, [], ◌∷◌, map, Bool, All, ⊤, if◌then◌else◌}
+use Rattle.rc_sheet_spec.specs.Sheet.{Alt, Effects, Test, Who, game, current_player, current_team, team_of_current, team_of_var, who_var, Loc, card_var, top_card, cards_in, eq_attr, all_of, any_of, Domain, each_card, has_value, ne, not_of, and_of, or_of, any_alt, if_alt}
 use Rattle.rc_sheet_spec.specs.Lists.{tests_from}
 use Rattle.rc_ast.specs.Names.{loc_seen, num_seen}
 use Rattle.rc_code.specs.declared.amounts.Amount.{Amount}
@@ -13,8 +13,10 @@ use Rattle.rc_code.specs.declared.guards.Sense.TheVariants.{Plain, Ne, Not}
 use Rattle.rc_code.specs.declared.guards.CardTest.{CardTest}
 use Rattle.rc_code.specs.declared.guards.CardTest.TheVariants.{Value, Against}
 use Rattle.rc_code.specs.declared.guards.Condition.{Condition}
-use Rattle.rc_code.specs.declared.guards.Condition.TheVariants.{Known, OfCard, Some}
+use Rattle.rc_code.specs.declared.guards.Condition.TheVariants.{Known, OfCard, Top, Among}
 use Rattle.rc_code.specs.declared.guards.GuardPart.{GuardPart}
+use Rattle.rc_code.specs.declared.guards.Joint.{Joint}
+use Rattle.rc_code.specs.declared.guards.Joint.TheVariants.{Sole, All as AllOfThem, Any}
 use Rattle.rc_code.specs.declared.guards.Guard.{Guard}
 
 -- the test of the card of the variable at a place
@@ -23,23 +25,34 @@ card_test_meant place (Value name value) = has_value (card_var place) name value
 card_test_meant place (Against name against other) =
     eq_attr (card_var place) name (top_card (cards_in (loc_seen against))) other
 
-abbrev pub condition_meant : Condition → Test
-condition_meant (Known comparison) = comparison_meant comparison
-condition_meant (OfCard card_test) = card_test_meant 0 card_test
-condition_meant (Some among bound card_test) =
-    any_of (each_card (cards_in (loc_seen among))) bound (card_test_meant 1 card_test)
-
 abbrev pub in_sense : Sense → Test → Test
 in_sense Plain t = t
 in_sense Ne t = ne t
 in_sense Not t = not_of t
 
+-- one of a domain passes a test, or each does
+abbrev pub over_domain : Bool → Domain → ℕ → Test → Test
+over_domain any domain bound t = if any then any_of domain bound t else all_of domain bound t
+
+abbrev pub condition_meant : Condition → Test
+condition_meant (Known comparison) = comparison_meant comparison
+condition_meant (OfCard card_test) = card_test_meant 0 card_test
+condition_meant (Top at name value) = has_value (top_card (cards_in (loc_seen at))) name value
+condition_meant (Among any among bound sense card_test) =
+    over_domain any (each_card (cards_in (loc_seen among))) bound (in_sense sense (card_test_meant 1 card_test))
+
 abbrev pub part_meant : GuardPart → Test
 part_meant part = in_sense part.sense (condition_meant part.condition)
 
+-- Tests in one. A sole one stands for itself; where there are more of them, or none, all are to hold.
+abbrev pub joined_tests : Joint → List Test → Test
+joined_tests Any ts = or_of (tests_from ts)
+joined_tests AllOfThem ts = and_of (tests_from ts)
+joined_tests Sole (t ∷ []) = t
+joined_tests Sole ts = and_of (tests_from ts)
+
 abbrev pub guard_meant : Guard → Test
-guard_meant guard = if guard.any then or_of (tests_from (map part_meant guard.parts.items))
-    else and_of (tests_from (map part_meant guard.parts.items))
+guard_meant guard = joined_tests guard.joint (map part_meant guard.parts.items)
 
 -- an owner that no variable stands for, and a location of such an owner
 abbrev pub IsFixedWho : Who → Type 0
@@ -71,7 +84,8 @@ IsFixedCardTest (Against name against other) = IsFixedLoc (loc_seen against)
 abbrev pub IsFixedCondition : Condition → Type 0
 IsFixedCondition (Known comparison) = IsFixedComparison comparison
 IsFixedCondition (OfCard card_test) = IsFixedCardTest card_test
-IsFixedCondition (Some among bound card_test) = IsFixedLoc (loc_seen among) × IsFixedCardTest card_test
+IsFixedCondition (Top at name value) = IsFixedLoc (loc_seen at)
+IsFixedCondition (Among any among bound sense card_test) = IsFixedLoc (loc_seen among) × IsFixedCardTest card_test
 
 abbrev pub IsFixedPart : GuardPart → Type 0
 IsFixedPart part = IsFixedCondition part.condition

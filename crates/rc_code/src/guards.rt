@@ -1,11 +1,11 @@
 //! Guards of the cards of one location, in parts.
 ghost use Rattle.std.specs.Prelude.{◌≡◌, ℕ, true, ◌&&◌, ◌||◌, map, All, is_some, IfSome, if◌then◌else◌};
-ghost use Rattle.rc_sheet_spec.specs.Sheet.{and_of, any_alt, any_of, cards_in, card_var, each_card, eq_attr, has_value, or_of, top_card};
-ghost use Rattle.rc_ast.specs.Names.{loc_seen};
+ghost use Rattle.rc_sheet_spec.specs.Sheet.{any_alt, cards_in, card_var, each_card, eq_attr, has_value, top_card};
+ghost use Rattle.rc_ast.specs.Names.{loc_seen, who_seen};
 ghost use Rattle.rc_ast.specs.Expressions.{card_seen, coll_seen, domain_seen, test_seen, tests_seen};
 ghost use Rattle.rc_ast.specs.Items.{alt_seen};
-ghost use Rattle.rc_code.specs.Guards.{in_sense, part_meant, guard_meant, IsFixedLoc, IsFixedAmount, IsFixedComparison, IsFixedPart, IsFixedGuard, IsConditionOf, IsPartOf, IsGuardOf, IsCardTestOf};
-ghost use Rattle.rc_code.specs.GuardParts.{is_fixed_who, is_fixed_location, is_fixed_top, is_fixed_domain, is_fixed_number, is_fixed_comparison, is_the_variable, is_card_test, is_condition, is_part, are_few_parts, is_in_parts, is_guarded, has_guard};
+ghost use Rattle.rc_code.specs.Guards.{in_sense, over_domain, part_meant, joined_tests, guard_meant, IsFixedWho, IsFixedLoc, IsFixedAmount, IsFixedComparison, IsFixedPart, IsFixedGuard, IsConditionOf, IsPartOf, IsGuardOf, IsCardTestOf};
+ghost use Rattle.rc_code.specs.GuardParts.{is_fixed_who, is_fixed_location, is_fixed_top, is_fixed_domain, is_fixed_number, is_fixed_comparison, is_fixed_condition, is_the_variable, is_card_test, is_condition, in_some_sense, are_few_parts, is_in_parts, is_guarded, has_guard};
 ghost use Rattle.rc_code.specs.FlatMeaning.{amount_meant, comparison_meant};
 
 use crate::amounts::Amount;
@@ -30,14 +30,23 @@ pub enum CardTest {
 }
 
 /// A condition that is asked with no walk over a tree, where no variable owns any of its locations: a comparison;
-/// whether the innermost variable's card passes a test; or whether one of the cards of a location does.
+/// whether the innermost variable's card passes a test; whether the top card of a location has a value; or whether one
+/// of the cards of a location, or each of them, passes a test or its opposite. How the top card is asked stands apart
+/// from comparisons, which effects ask too, and which took longer with it.
 #[derive(Clone, Copy)]
 pub enum Condition {
     Known(Comparison),
     OfCard(CardTest),
-    Some {
+    Top {
+        at: Loc,
+        name: u16,
+        value: u16,
+    },
+    Among {
+        any: bool,
         among: Loc,
         bound: u32,
+        sense: Sense,
         card_test: CardTest,
     },
 }
@@ -61,21 +70,28 @@ impl Default for GuardPart {
 /// The parts of a guard, few of them.
 pub type FewParts = ArrayVec<GuardPart, 4>;
 
-/// A guard of the cards of a location: whether one of its parts is enough, and the parts. No variable owns any of its
-/// locations.
+/// How the parts of a guard are joined: a sole one is the guard itself, all are to hold, or one is enough.
+#[derive(Clone, Copy)]
+pub enum Joint {
+    Sole,
+    All,
+    Any,
+}
+
+/// A guard of the cards of a location. No variable owns any of its locations.
 #[derive(Drop)]
 pub struct Guard {
     pub loc: Loc,
-    pub any: bool,
+    pub joint: Joint,
     pub parts: FewParts,
 }
 
-// Whether no variable owns a location.
-fn is_fixed(loc: &Loc) -> bool
-    ensures fixed { result ≡ true → IsFixedLoc (loc_seen loc.now) }
-    ensures told { result ≡ is_fixed_who (loc_seen loc.now).who }
+// Whether no variable stands for an owner.
+fn is_fixed_owner(who: Who) -> bool
+    ensures fixed { result ≡ true → IsFixedWho (who_seen who) }
+    ensures told { result ≡ is_fixed_who (who_seen who) }
 {
-    match loc.who {
+    match who {
         Who::Game => true,
         Who::CurrentPlayer => true,
         Who::CurrentTeam => true,
@@ -84,15 +100,22 @@ fn is_fixed(loc: &Loc) -> bool
     }
 }
 
-// Whether no variable owns what a number is read off. A number that the game keeps isn't looked at: few guards ask for
-// one.
+// Whether no variable owns a location.
+fn is_fixed(loc: &Loc) -> bool
+    ensures fixed { result ≡ true → IsFixedLoc (loc_seen loc.now) }
+    ensures told { result ≡ is_fixed_who (loc_seen loc.now).who }
+{
+    is_fixed_owner(loc.who)
+}
+
+// Whether no variable owns what a number is read off.
 fn is_fixed_amount(amount: &Amount) -> bool
     ensures fixed { result ≡ true → IsFixedAmount amount.now }
     ensures told { result ≡ is_fixed_number (amount_meant amount.now) }
 {
     match amount {
         Amount::Literal(_) => true,
-        Amount::Number(_) => false,
+        Amount::Number(num) => is_fixed_owner(num.who),
         Amount::Size(loc) => is_fixed(loc),
         Amount::Worth(loc, _) => is_fixed(loc),
     }
@@ -223,41 +246,77 @@ fn known_of(test: &Test) -> Option<Condition>
     }
 }
 
-// The condition that a test is which binds no variable.
-fn plain_condition(test: &Test) -> Option<Condition>
-    ensures meaning { IfSome result (IsConditionOf (test_seen test.now)) }
-    ensures found { is_some result ≡ is_card_test 0 (test_seen test.now) || is_fixed_comparison (test_seen test.now) }
+// Whether the top card of a location has a value.
+fn top_of(card: &CardExpr, name: u16, value: u16) -> Option<Condition>
+    ensures meaning { IfSome result (IsConditionOf (has_value (card_seen card.now) name value)) }
+    ensures found { is_some result ≡ is_fixed_top (card_seen card.now) }
 {
-    match card_test_of(test, 0) {
-        Some(card_test) => Some(Condition::OfCard(card_test)),
-        None => known_of(test),
-    }
-}
-
-// The condition that one of a domain passes a test.
-fn some_of(domain: &Domain, bound: u32, inner: &Test) -> Option<Condition>
-    ensures meaning { IfSome result (IsConditionOf (any_of (domain_seen domain.now) bound (test_seen inner.now))) }
-    ensures found { is_some result ≡ is_fixed_domain (domain_seen domain.now) && is_card_test 1 (test_seen inner.now) }
-{
-    match fixed_domain(domain) {
-        Some(among) => some_in(among, bound, inner),
+    match fixed_top(card) {
+        Some(at) => Some(Condition::Top { at, name, value }),
         None => None,
     }
 }
 
-fn some_in(among: Loc, bound: u32, inner: &Test) -> Option<Condition>
+// The condition that one of the cards of a location, or each, passes a test.
+fn among_in_sense(
+    any: bool,
+    among: Loc,
+    bound: u32,
+    sense: Sense,
+    inner: &Test,
+) -> Option<Condition>
     requires { IsFixedLoc (loc_seen among) }
-    ensures meaning { IfSome result (IsConditionOf
-        (any_of (each_card (cards_in (loc_seen among))) bound (test_seen inner.now))) }
+    ensures meaning { IfSome result (IsConditionOf (over_domain any (each_card (cards_in (loc_seen among))) bound
+        (in_sense sense (test_seen inner.now)))) }
     ensures found { is_some result ≡ is_card_test 1 (test_seen inner.now) }
 {
     match card_test_of(inner, 1) {
-        Some(card_test) => Some(Condition::Some {
+        Some(card_test) => Some(Condition::Among {
+            any,
             among,
             bound,
+            sense,
             card_test,
         }),
         None => None,
+    }
+}
+
+fn among_in(any: bool, among: Loc, bound: u32, inner: &Test) -> Option<Condition>
+    requires { IsFixedLoc (loc_seen among) }
+    ensures meaning { IfSome result (IsConditionOf
+        (over_domain any (each_card (cards_in (loc_seen among))) bound (test_seen inner.now))) }
+    ensures found { is_some result ≡ in_some_sense (is_card_test 1) (test_seen inner.now) }
+{
+    match inner {
+        Test::Ne(plain) => among_in_sense(any, among, bound, Sense::Ne, plain),
+        Test::Not(plain) => among_in_sense(any, among, bound, Sense::Not, plain),
+        _ => among_in_sense(any, among, bound, Sense::Plain, inner),
+    }
+}
+
+fn among_of(any: bool, domain: &Domain, bound: u32, inner: &Test) -> Option<Condition>
+    ensures meaning { IfSome result (IsConditionOf
+        (over_domain any (domain_seen domain.now) bound (test_seen inner.now))) }
+    ensures found { is_some result
+        ≡ is_fixed_domain (domain_seen domain.now) && in_some_sense (is_card_test 1) (test_seen inner.now) }
+{
+    match fixed_domain(domain) {
+        Some(among) => among_in(any, among, bound, inner),
+        None => None,
+    }
+}
+
+// A condition of no variable's card.
+fn fixed_condition(test: &Test) -> Option<Condition>
+    ensures meaning { IfSome result (IsConditionOf (test_seen test.now)) }
+    ensures found { is_some result ≡ is_fixed_condition (test_seen test.now) }
+{
+    match test {
+        Test::Any(domain, bound, inner) => among_of(true, domain, *bound, inner),
+        Test::All(domain, bound, inner) => among_of(false, domain, *bound, inner),
+        Test::Is(card, name, value) => top_of(card, *name, *value),
+        _ => known_of(test),
     }
 }
 
@@ -265,9 +324,9 @@ fn condition_of(test: &Test) -> Option<Condition>
     ensures meaning { IfSome result (IsConditionOf (test_seen test.now)) }
     ensures found { is_some result ≡ is_condition (test_seen test.now) }
 {
-    match test {
-        Test::Any(domain, bound, inner) => some_of(domain, *bound, inner),
-        _ => plain_condition(test),
+    match card_test_of(test, 0) {
+        Some(card_test) => Some(Condition::OfCard(card_test)),
+        None => fixed_condition(test),
     }
 }
 
@@ -283,7 +342,7 @@ fn part_in_sense(sense: Sense, test: &Test) -> Option<GuardPart>
 
 fn part_of(test: &Test) -> Option<GuardPart>
     ensures meaning { IfSome result (IsPartOf (test_seen test.now)) }
-    ensures found { is_some result ≡ is_part (test_seen test.now) }
+    ensures found { is_some result ≡ in_some_sense is_condition (test_seen test.now) }
 {
     match test {
         Test::Ne(inner) => part_in_sense(Sense::Ne, inner),
@@ -311,16 +370,37 @@ fn parts_of(tests: &Vec<Test>) -> Option<FewParts>
 }
 
 // The guard of a location's cards that joins these tests.
-fn joined_guard(loc: Loc, any: bool, tests: &Vec<Test>) -> Option<Guard>
+fn joined_guard(loc: Loc, joint: Joint, tests: &Vec<Test>) -> Option<Guard>
     requires { IsFixedLoc (loc_seen loc) }
     ensures place { IfSome result (λ guard. guard.loc ≡ loc) }
-    ensures same { IfSome result (λ guard. guard_meant guard
-        ≡ (if any then or_of (tests_seen tests.now.items) else and_of (tests_seen tests.now.items))) }
+    ensures same { IfSome result (λ guard. guard_meant guard ≡ joined_tests joint (map test_seen tests.now.items)) }
     ensures fixed { IfSome result IsFixedGuard }
     ensures found { is_some result ≡ are_few_parts (tests_seen tests.now.items) }
 {
     match parts_of(tests) {
-        Some(parts) => Some(Guard { loc, any, parts }),
+        Some(parts) => Some(Guard { loc, joint, parts }),
+        None => None,
+    }
+}
+
+// The guard that is a sole part.
+fn sole_guard(loc: Loc, test: &Test) -> Option<Guard>
+    requires { IsFixedLoc (loc_seen loc) }
+    ensures place { IfSome result (λ guard. guard.loc ≡ loc) }
+    ensures same { IfSome result (λ guard. guard_meant guard ≡ test_seen test.now) }
+    ensures fixed { IfSome result IsFixedGuard }
+    ensures found { is_some result ≡ in_some_sense is_condition (test_seen test.now) }
+{
+    match part_of(test) {
+        Some(part) => {
+            let mut parts = FewParts::new();
+            parts.push(part);
+            Some(Guard {
+                loc,
+                joint: Joint::Sole,
+                parts,
+            })
+        }
         None => None,
     }
 }
@@ -334,9 +414,9 @@ fn guard_by(loc: Loc, test: &Test) -> Option<Guard>
     ensures found { is_some result ≡ is_in_parts (test_seen test.now) }
 {
     match test {
-        Test::Or(tests) => joined_guard(loc, true, tests),
-        Test::And(tests) => joined_guard(loc, false, tests),
-        _ => None,
+        Test::Or(tests) => joined_guard(loc, Joint::Any, tests),
+        Test::And(tests) => joined_guard(loc, Joint::All, tests),
+        _ => sole_guard(loc, test),
     }
 }
 

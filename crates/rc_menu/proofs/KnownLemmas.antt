@@ -10,7 +10,7 @@ use Rattle.rc_code.specs.declared.atoms.Comparator.{Comparator}
 use Rattle.rc_menu.specs.declared.known.AtHand.{AtHand}
 use Rattle.rc_menu.specs.declared.known.AtHand.TheVariants.{OfCard, Holds, Unclear}
 use Rattle.rc_value.specs.declared.wanted.WantedValue.{WantedValue}
-use Rattle.rc_menu.specs.Known.{hand_turned, turned, IsAtHand, IsFixedNumber, IsKnownAt, IsKnownOver, IsKnownPair, IsTurned}
+use Rattle.rc_menu.specs.Known.{hand_turned, turned, wanted_turned, IsAtHand, IsFixedNumber, IsKnownAt, IsKnownOver, IsKnownPair, IsTurned}
 use Rattle.rc_value.specs.Comparing.{compare}
 use Rattle.rc_value.specs.Over.{over}
 use Rattle.rc_value.specs.Wanted.{compares, wanted_value, IsFixedCollection, IsFixedOwner, IsWantedAt}
@@ -53,6 +53,13 @@ module _ (s : PureScene CardValue) where
       IfSome is (IsKnownPair s how a b) → IfSome is (IsKnownAt s count t)
   pair_at count how a b t None same h = h
   pair_at count how a b t (Some is) same h = λ vars few. same vars ∙ h vars
+
+  -- how a value is wanted for an opposite
+  pub wanted_opposite : (count : ℕ) (opposite : Bool) (t t' : Test) (w w' : WantedValue) → IsTurned opposite t t' → w' ≡ wanted_turned opposite w →
+      IsWantedAt s count t w → IsWantedAt s count t' w'
+  wanted_opposite count opposite t t' w w' how is h = λ vars few c.
+      how s (vars ++ card_bound c ∷ []) ∙ ap (turned opposite) (h vars few c) ∙ turned_meets opposite w.equal w.value (attr_of s w.name c)
+      ∙ ap (λ x. wanted_value s x c) (sym is)
 
   -- what is at hand of an opposite
   pub turned_hand : (vars : List (PureBind CardValue)) (opposite : Bool) (t t' : Test) (hand : AtHand) → IsTurned opposite t t' →

@@ -2,7 +2,7 @@
 use Rattle.std.proofs.Common.{◌≡◌, ℕ, ◌+◌, ◌<◌, ◌≤◌, ◌&&◌, Bool, true, false, cond, List, [], ◌∷◌, ◌++◌, length, map, drop, get_or, pos, refl, sym, ap, ap₂, ◌∙◌, append-nil}
 use Rattle.std.specs.List.{list_any, list_all}
 use Rattle.std.proofs.lemmas.List.{drop_all}
-use Rattle.rc_sheet_spec.specs.Sheet.{Who, game, current_player, current_team, team_of_current, team_of_var, who_var, Loc as PureLoc, cards_in, top_card, and_of, or_of}
+use Rattle.rc_sheet_spec.specs.Sheet.{Who, game, current_player, current_team, team_of_current, team_of_var, who_var, Loc as PureLoc, cards_in, top_card}
 use Rattle.rc_sheet_spec.specs.Lists.{tests_from}
 use Rattle.rc_play_spec.specs.Scene.{CardValue}
 use Rattle.rc_play_spec.specs.Value.{Scene as PureScene, Bind as PureBind, card_bound, nat_same, both, attr_of_any, worth_of_any, test_value, tests_value}
@@ -15,9 +15,11 @@ use Rattle.rc_code.specs.declared.atoms.Comparator.TheVariants.{Equal}
 use Rattle.rc_code.specs.declared.guards.Sense.TheVariants.{Plain}
 use Rattle.rc_code.specs.declared.guards.Condition.TheVariants.{Known}
 use Rattle.rc_code.specs.declared.guards.GuardPart.{GuardPart}
+use Rattle.rc_code.specs.declared.guards.Joint.{Joint}
+use Rattle.rc_code.specs.declared.guards.Joint.TheVariants.{Sole, All as AllOfThem, Any}
 use Rattle.rc_code.specs.declared.guards.Guard.{Guard}
 use Rattle.rc_code.specs.FlatMeaning.{amount_meant, comparison_meant}
-use Rattle.rc_code.specs.Guards.{guard_meant, part_meant, IsFixedAmount, IsFixedComparison, IsFixedLoc, IsFixedWho}
+use Rattle.rc_code.specs.Guards.{guard_meant, joined_tests, part_meant, IsFixedAmount, IsFixedComparison, IsFixedLoc, IsFixedWho}
 use Rattle.rc_rules.proofs.Elements.{drop_here}
 use Rattle.rc_value.specs.Comparing.{compare}
 use Rattle.rc_value.specs.Wanted.{IsFixed, IsFixedCollection, IsFixedOwner}
@@ -25,8 +27,9 @@ use Rattle.rc_value.proofs.AtomLemmas.{compared_is}
 use Rattle.rc_value.proofs.WantedLemmas.{fixed_cards, fixed_top}
 use Rattle.rc_menu.specs.declared.asks.CardAsk.{CardAsk}
 use Rattle.rc_menu.specs.declared.asks.CardAsk.TheVariants.{Value, CardTest, Whole}
-use Rattle.rc_menu.specs.Asks.{ask_value, asks_value, joined, parts_told, told_of, IsJoined}
+use Rattle.rc_menu.specs.Asks.{ask_value, asks_value, joined, one_suffices, parts_told, told_of, IsJoined}
 use Rattle.rc_menu.specs.Known.{IsFixedNumber, IsKnownAt}
+use Rattle.rc_menu.proofs.AskLemmas.{joined_one}
 use Rattle.rc_menu.proofs.KnownLemmas.{fixed_literal, fixed_num, fixed_size}
 
 -- what no variable owns is the same whatever variables stand for
@@ -118,10 +121,13 @@ module _ (s : PureScene CardValue) (vars : List (PureBind CardValue)) where
   parts_from c [] = refl
   parts_from c (part ∷ parts) = ap (λ bs. told_of s vars (part_meant part) c ∷ bs) (parts_from c parts)
 
-  told_by : (any : Bool) (c : CardValue) (parts : List GuardPart) →
-      told_of s vars (cond any (or_of (tests_from (map part_meant parts))) (and_of (tests_from (map part_meant parts)))) c ≡ joined any (parts_told s vars parts c)
-  told_by true c parts = ap (list_any (λ b. b)) (parts_from c parts)
-  told_by false c parts = ap (list_all (λ b. b)) (parts_from c parts)
+  told_by : (joint : Joint) (c : CardValue) (parts : List GuardPart) →
+      told_of s vars (joined_tests joint (map part_meant parts)) c ≡ joined (one_suffices joint) (parts_told s vars parts c)
+  told_by Any c parts = ap (list_any (λ b. b)) (parts_from c parts)
+  told_by AllOfThem c parts = ap (list_all (λ b. b)) (parts_from c parts)
+  told_by Sole c [] = refl
+  told_by Sole c (part ∷ []) = sym (joined_one false (told_of s vars (part_meant part) c))
+  told_by Sole c (part ∷ next ∷ parts) = ap (list_all (λ b. b)) (parts_from c (part ∷ next ∷ parts))
 
-  pub guard_told : (guard : Guard) (c : CardValue) → told_of s vars (guard_meant guard) c ≡ joined guard.any (parts_told s vars guard.parts.items c)
-  guard_told guard c = told_by guard.any c guard.parts.items
+  pub guard_told : (guard : Guard) (c : CardValue) → told_of s vars (guard_meant guard) c ≡ joined (one_suffices guard.joint) (parts_told s vars guard.parts.items c)
+  guard_told guard c = told_by guard.joint c guard.parts.items

@@ -7,6 +7,8 @@ use Rattle.rc_play_spec.specs.Scene.{CardValue, id_of}
 use Rattle.rc_ast.specs.Expressions.{test_seen}
 use Rattle.rc_code.specs.Guards.{part_meant}
 use Rattle.rc_code.specs.declared.guards.GuardPart.{GuardPart}
+use Rattle.rc_code.specs.declared.guards.Joint.{Joint}
+use Rattle.rc_code.specs.declared.guards.Joint.TheVariants.{Any}
 use Rattle.rc_menu.specs.declared.asks.CardAsk.{CardAsk}
 use Rattle.rc_menu.specs.declared.asks.CardAsk.TheVariants.{Value, CardTest, Whole}
 use Rattle.rc_menu.specs.declared.asks.Parts.{Parts}
@@ -47,6 +49,11 @@ joined any answers = if any then list_any (λ b. b) answers else list_all (λ b.
 -- what a test says, of each card
 abbrev pub told_of : PureScene CardValue → List (PureBind CardValue) → Test → CardValue → Bool
 told_of s vars t c = test_value s (vars ++ card_bound c ∷ []) t
+
+-- whether one part of a guard is enough
+abbrev pub one_suffices : Joint → Bool
+one_suffices Any = true
+one_suffices joint = false
 
 -- what parts of a guard say, of each card
 abbrev pub parts_told : PureScene CardValue → List (PureBind CardValue) → List GuardPart → CardValue → List Bool

@@ -5,7 +5,7 @@ ghost use Rattle.rc_sheet_spec.specs.Sheet.{cards_in, each_card};
 ghost use Rattle.rc_play_spec.specs.Value.{coll_value};
 ghost use Rattle.rc_ast.specs.Names.{loc_seen};
 ghost use Rattle.rc_ast.specs.Expressions.{coll_seen, int_seen, test_seen, domain_seen};
-ghost use Rattle.rc_menu.specs.Known.{hand_turned, IsAtHand, IsKnownAt, IsKnownOver, IsFixedNumber, IsKnownPair, IsTurned};
+ghost use Rattle.rc_menu.specs.Known.{hand_turned, wanted_turned, IsAtHand, IsKnownAt, IsKnownOver, IsFixedNumber, IsKnownPair, IsTurned};
 ghost use Rattle.rc_value.specs.Over.{over};
 ghost use Rattle.rc_value.specs.Scene.{scene_seen};
 ghost use Rattle.rc_value.specs.Wanted.{wanted_value, IsFixedOwner};
@@ -48,17 +48,25 @@ fn plain_of<'t>(test: &'t Test) -> (&'t Test, bool)
     }
 }
 
+/// How a value is wanted for the opposite, or the same.
+#[inline(always)]
+pub(crate) fn turned_wanted(opposite: bool, wanted: WantedValue) -> WantedValue
+    ensures { result ≡ wanted_turned opposite wanted }
+{
+    WantedValue {
+        name: wanted.name,
+        value: wanted.value,
+        equal: wanted.equal != opposite,
+    }
+}
+
 /// What is at hand of the opposite, or the same.
 #[inline(always)]
 pub(crate) fn turned_if(opposite: bool, hand: AtHand) -> AtHand
     ensures { result ≡ hand_turned opposite hand }
 {
     match hand {
-        AtHand::OfCard(wanted) => AtHand::OfCard(WantedValue {
-            name: wanted.name,
-            value: wanted.value,
-            equal: wanted.equal != opposite,
-        }),
+        AtHand::OfCard(wanted) => AtHand::OfCard(turned_wanted(opposite, wanted)),
         AtHand::Holds(holds) => AtHand::Holds(holds != opposite),
         AtHand::Unclear => AtHand::Unclear,
     }

@@ -2,17 +2,20 @@
 //! card itself, so each part is asked once, with no walk over a tree, outside all binders.
 ghost use Rattle.std.specs.Prelude.{◌≡◌, ℕ, ◌+◌, ◌<◌, ◌≤◌, [], true, length, map, All, IfSome, if◌then◌else◌};
 ghost use Rattle.std.specs.List.{list_all};
-ghost use Rattle.rc_sheet_spec.specs.Sheet.{Test as PureTest};
+ghost use Rattle.rc_sheet_spec.specs.Sheet.{Test as PureTest, cards_in, has_value, top_card};
 ghost use Rattle.rc_play_spec.specs.Scene.{CardValue};
+ghost use Rattle.rc_play_spec.specs.Value.{test_value};
+ghost use Rattle.rc_ast.specs.Names.{loc_seen};
 ghost use Rattle.rc_code.specs.Guards.{in_sense, guard_meant, part_meant, condition_meant, card_test_meant, IsFixedGuard, IsFixedPart, IsFixedCondition, IsFixedCardTest};
-ghost use Rattle.rc_menu.specs.Asks.{ask_value, asks_value, joined, parts_told, IsInParts, IsJoined};
+ghost use Rattle.rc_menu.specs.Asks.{ask_value, asks_value, joined, one_suffices, parts_told, IsInParts, IsJoined};
 ghost use Rattle.rc_menu.specs.Known.{IsAtHand, IsTurned};
 ghost use Rattle.rc_value.specs.Scene.{scene_seen};
 ghost use Rattle.rc_value.specs.Wanted.{IsWantedAt};
 
 use crate::asks::{Asks, Parts, ask_in};
-use crate::known::{AtHand, are_there, turned_if};
-use rc_code::{CardTest, Condition, Guard, GuardPart, Sense};
+use crate::known::{AtHand, are_there, turned_if, turned_wanted};
+use rc_ast::Loc;
+use rc_code::{CardTest, Condition, Guard, GuardPart, Joint, Sense};
 use rc_value::{Bindings, Scene, WantedValue, attr_of_id, comparison_holds, top_id};
 
 // The value that a card is to have.
@@ -39,6 +42,15 @@ fn wanted_by(scene: &Scene, scope: &Bindings, card_test: &CardTest) -> WantedVal
     }
 }
 
+// Whether the top card of a location has a value.
+#[inline(always)]
+fn top_has(scene: &Scene, scope: &Bindings, at: &Loc, name: u16, value: u16) -> bool
+    ensures { result ≡ test_value (scene_seen scene.now) scope.now
+        (has_value (top_card (cards_in (loc_seen at.now))) name value) }
+{
+    attr_of_id(scene, top_id(scene, scope, at), name) == Some(value)
+}
+
 // What is at hand of a condition.
 #[inline(always)]
 fn condition_at_hand(scene: &Scene, scope: &Bindings, condition: &Condition) -> AtHand
@@ -49,13 +61,19 @@ fn condition_at_hand(scene: &Scene, scope: &Bindings, condition: &Condition) -> 
     match condition {
         Condition::Known(comparison) => AtHand::Holds(comparison_holds(scene, scope, comparison)),
         Condition::OfCard(card_test) => AtHand::OfCard(wanted_by(scene, scope, card_test)),
-        Condition::Some {
+        Condition::Top { at, name, value } => {
+            AtHand::Holds(top_has(scene, scope, at, *name, *value))
+        }
+        Condition::Among {
+            any,
             among,
             bound: _,
+            sense,
             card_test,
         } => {
-            let wanted = wanted_by(scene, scope, card_test);
-            AtHand::Holds(are_there(scene, scope, among, wanted, true))
+            let plain = wanted_by(scene, scope, card_test);
+            let wanted = turned_wanted(is_opposite(*sense), plain);
+            AtHand::Holds(are_there(scene, scope, among, wanted, *any))
         }
     }
 }
@@ -144,6 +162,17 @@ fn parts_settle<'t>(
     Some(false)
 }
 
+// Whether one part is enough.
+#[inline(always)]
+fn is_one_enough(joint: Joint) -> bool
+    ensures { result ≡ one_suffices joint }
+{
+    match joint {
+        Joint::Any => true,
+        _ => false,
+    }
+}
+
 /// A guard whose parts are known, in parts as `parts_of` has them: values are all that is asked. None where there is no
 /// row of them.
 #[inline(always)]
@@ -162,11 +191,9 @@ pub(crate) fn known_parts<'t>(
 {
     // what a list keeps
     let _few = guard.parts.len();
-    match parts_settle(scene, scope, guard.parts.as_slice(), guard.any, asks) {
-        Some(settled) => Some(Parts {
-            settled,
-            any: guard.any,
-        }),
+    let any = is_one_enough(guard.joint);
+    match parts_settle(scene, scope, guard.parts.as_slice(), any, asks) {
+        Some(settled) => Some(Parts { settled, any }),
         None => None,
     }
 }
