@@ -6,7 +6,7 @@ use Rattle.rc_sheet_spec.specs.Lists.{test_list}
 use Rattle.rc_ast.specs.declared.expressions.Test.{Test}
 use Rattle.rc_ast.specs.Expressions.{test_seen, tests_seen}
 use Rattle.rc_ast.proofs.ViewLemmas.{tests_seen-drop}
-use Rattle.rc_code.specs.GuardParts.{in_some_sense, is_condition, are_parts, are_few_parts}
+use Rattle.rc_code.specs.GuardParts.{in_some_sense, is_guard_test, are_parts, are_few_parts}
 
 tests_count : (tests : List Test) → length (test_list (tests_seen tests)) ≡ length tests
 tests_count [] = refl
@@ -18,7 +18,7 @@ too_many tests many =
     sym (ap (λ b. b && are_parts (tests_seen tests)) (lt-leb (length (test_list (tests_seen tests))) 4 (omega (arith, count, many))))
 
 -- one more is a part
-pub one_part : (tests : List Test) (i : ℕ) (t : Test) → i < length tests → t ≡ get_or tests i t → true ≡ in_some_sense is_condition (test_seen t) →
+pub one_part : (tests : List Test) (i : ℕ) (t : Test) → i < length tests → t ≡ get_or tests i t → true ≡ in_some_sense is_guard_test (test_seen t) →
     are_parts (tests_seen (drop i tests)) ≡ are_parts (tests_seen (drop (i + 1) tests))
 one_part tests i t lt is part =
     ap are_parts (tests_seen-drop tests i t lt is) ∙ ap (λ b. b && are_parts (tests_seen (drop (i + 1) tests))) (sym part)

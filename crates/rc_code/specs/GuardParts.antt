@@ -67,13 +67,13 @@ is_fixed_condition (has_value card attr value) = is_fixed_top card
 is_fixed_condition t = is_fixed_comparison t
 
 -- such a one, or whether the offered card passes such a test
-abbrev pub is_condition : Test → Bool
-is_condition t = is_card_test 0 t || is_fixed_condition t
+abbrev pub is_guard_test : Test → Bool
+is_guard_test t = is_card_test 0 t || is_fixed_condition t
 
 -- conditions, or their opposites
 abbrev pub are_parts : Tests → Bool
 are_parts no_test = true
-are_parts (test t tests) = in_some_sense is_condition t && are_parts tests
+are_parts (test t tests) = in_some_sense is_guard_test t && are_parts tests
 
 -- at most four parts
 abbrev pub are_few_parts : Tests → Bool
@@ -83,7 +83,7 @@ are_few_parts tests = nat_le (length (test_list tests)) 4 && are_parts tests
 abbrev pub is_in_parts : Test → Bool
 is_in_parts (and_of tests) = are_few_parts tests
 is_in_parts (or_of tests) = are_few_parts tests
-is_in_parts t = in_some_sense is_condition t
+is_in_parts t = in_some_sense is_guard_test t
 
 abbrev pub is_guarded : Alt → Bool
 is_guarded (if_alt guard effects) = is_in_parts guard

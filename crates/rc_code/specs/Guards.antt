@@ -12,8 +12,8 @@ use Rattle.rc_code.specs.declared.guards.Sense.{Sense}
 use Rattle.rc_code.specs.declared.guards.Sense.TheVariants.{Plain, Ne, Not}
 use Rattle.rc_code.specs.declared.guards.CardTest.{CardTest}
 use Rattle.rc_code.specs.declared.guards.CardTest.TheVariants.{Value, Against}
-use Rattle.rc_code.specs.declared.guards.Condition.{Condition}
-use Rattle.rc_code.specs.declared.guards.Condition.TheVariants.{Known, OfCard, Top, Among}
+use Rattle.rc_code.specs.declared.guards.GuardTest.{GuardTest}
+use Rattle.rc_code.specs.declared.guards.GuardTest.TheVariants.{Known, OfCard, Top, Among}
 use Rattle.rc_code.specs.declared.guards.GuardPart.{GuardPart}
 use Rattle.rc_code.specs.declared.guards.Joint.{Joint}
 use Rattle.rc_code.specs.declared.guards.Joint.TheVariants.{Sole, All as AllOfThem, Any}
@@ -34,15 +34,15 @@ in_sense Not t = not_of t
 abbrev pub over_domain : Bool → Domain → ℕ → Test → Test
 over_domain any domain bound t = if any then any_of domain bound t else all_of domain bound t
 
-abbrev pub condition_meant : Condition → Test
-condition_meant (Known comparison) = comparison_meant comparison
-condition_meant (OfCard card_test) = card_test_meant 0 card_test
-condition_meant (Top at name value) = has_value (top_card (cards_in (loc_seen at))) name value
-condition_meant (Among any among bound sense card_test) =
+abbrev pub guard_test_meant : GuardTest → Test
+guard_test_meant (Known comparison) = comparison_meant comparison
+guard_test_meant (OfCard card_test) = card_test_meant 0 card_test
+guard_test_meant (Top at name value) = has_value (top_card (cards_in (loc_seen at))) name value
+guard_test_meant (Among any among bound sense card_test) =
     over_domain any (each_card (cards_in (loc_seen among))) bound (in_sense sense (card_test_meant 1 card_test))
 
 abbrev pub part_meant : GuardPart → Test
-part_meant part = in_sense part.sense (condition_meant part.condition)
+part_meant part = in_sense part.sense (guard_test_meant part.condition)
 
 -- Tests in one. A sole one stands for itself; where there are more of them, or none, all are to hold.
 abbrev pub joined_tests : Joint → List Test → Test
@@ -81,21 +81,21 @@ abbrev pub IsFixedCardTest : CardTest → Type 0
 IsFixedCardTest (Value name value) = ⊤
 IsFixedCardTest (Against name against other) = IsFixedLoc (loc_seen against)
 
-abbrev pub IsFixedCondition : Condition → Type 0
-IsFixedCondition (Known comparison) = IsFixedComparison comparison
-IsFixedCondition (OfCard card_test) = IsFixedCardTest card_test
-IsFixedCondition (Top at name value) = IsFixedLoc (loc_seen at)
-IsFixedCondition (Among any among bound sense card_test) = IsFixedLoc (loc_seen among) × IsFixedCardTest card_test
+abbrev pub IsFixedGuardTest : GuardTest → Type 0
+IsFixedGuardTest (Known comparison) = IsFixedComparison comparison
+IsFixedGuardTest (OfCard card_test) = IsFixedCardTest card_test
+IsFixedGuardTest (Top at name value) = IsFixedLoc (loc_seen at)
+IsFixedGuardTest (Among any among bound sense card_test) = IsFixedLoc (loc_seen among) × IsFixedCardTest card_test
 
 abbrev pub IsFixedPart : GuardPart → Type 0
-IsFixedPart part = IsFixedCondition part.condition
+IsFixedPart part = IsFixedGuardTest part.condition
 
 -- a test of a card, a condition and a part that stand for a test, and of which no variable owns any location
 abbrev pub IsCardTestOf : ℕ → Test → CardTest → Type 0
 IsCardTestOf place t card_test = (card_test_meant place card_test ≡ t) × IsFixedCardTest card_test
 
-abbrev pub IsConditionOf : Test → Condition → Type 0
-IsConditionOf t condition = (condition_meant condition ≡ t) × IsFixedCondition condition
+abbrev pub IsGuardTestOf : Test → GuardTest → Type 0
+IsGuardTestOf t condition = (guard_test_meant condition ≡ t) × IsFixedGuardTest condition
 
 abbrev pub IsPartOf : Test → GuardPart → Type 0
 IsPartOf t part = (part_meant part ≡ t) × IsFixedPart part

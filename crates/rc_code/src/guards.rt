@@ -4,8 +4,8 @@ ghost use Rattle.rc_sheet_spec.specs.Sheet.{any_alt, cards_in, card_var, each_ca
 ghost use Rattle.rc_ast.specs.Names.{loc_seen, who_seen};
 ghost use Rattle.rc_ast.specs.Expressions.{card_seen, coll_seen, domain_seen, test_seen, tests_seen};
 ghost use Rattle.rc_ast.specs.Items.{alt_seen};
-ghost use Rattle.rc_code.specs.Guards.{in_sense, over_domain, part_meant, joined_tests, guard_meant, IsFixedWho, IsFixedLoc, IsFixedAmount, IsFixedComparison, IsFixedPart, IsFixedGuard, IsConditionOf, IsPartOf, IsGuardOf, IsCardTestOf};
-ghost use Rattle.rc_code.specs.GuardParts.{is_fixed_who, is_fixed_location, is_fixed_top, is_fixed_domain, is_fixed_number, is_fixed_comparison, is_fixed_condition, is_the_variable, is_card_test, is_condition, in_some_sense, are_few_parts, is_in_parts, is_guarded, has_guard};
+ghost use Rattle.rc_code.specs.Guards.{in_sense, over_domain, part_meant, joined_tests, guard_meant, IsFixedWho, IsFixedLoc, IsFixedAmount, IsFixedComparison, IsFixedPart, IsFixedGuard, IsGuardTestOf, IsPartOf, IsGuardOf, IsCardTestOf};
+ghost use Rattle.rc_code.specs.GuardParts.{is_fixed_who, is_fixed_location, is_fixed_top, is_fixed_domain, is_fixed_number, is_fixed_comparison, is_fixed_condition, is_the_variable, is_card_test, is_guard_test, in_some_sense, are_few_parts, is_in_parts, is_guarded, has_guard};
 ghost use Rattle.rc_code.specs.FlatMeaning.{amount_meant, comparison_meant};
 
 use crate::amounts::Amount;
@@ -34,7 +34,7 @@ pub enum CardTest {
 /// of the cards of a location, or each of them, passes a test or its opposite. How the top card is asked stands apart
 /// from comparisons, which effects ask too, and which took longer with it.
 #[derive(Clone, Copy)]
-pub enum Condition {
+pub enum GuardTest {
     Known(Comparison),
     OfCard(CardTest),
     Top {
@@ -55,14 +55,14 @@ pub enum Condition {
 #[derive(Clone, Copy)]
 pub struct GuardPart {
     pub sense: Sense,
-    pub condition: Condition,
+    pub condition: GuardTest,
 }
 
 impl Default for GuardPart {
     fn default() -> GuardPart {
         GuardPart {
             sense: Sense::Plain,
-            condition: Condition::OfCard(CardTest::Value { name: 0, value: 0 }),
+            condition: GuardTest::OfCard(CardTest::Value { name: 0, value: 0 }),
         }
     }
 }
@@ -230,14 +230,14 @@ fn card_test_of(test: &Test, place: u8) -> Option<CardTest>
     }
 }
 
-fn known_of(test: &Test) -> Option<Condition>
-    ensures meaning { IfSome result (IsConditionOf (test_seen test.now)) }
+fn known_of(test: &Test) -> Option<GuardTest>
+    ensures meaning { IfSome result (IsGuardTestOf (test_seen test.now)) }
     ensures found { is_some result ≡ is_fixed_comparison (test_seen test.now) }
 {
     match comparison_of(test) {
         Some(comparison) => {
             if is_comparison_fixed(&comparison) {
-                Some(Condition::Known(comparison))
+                Some(GuardTest::Known(comparison))
             } else {
                 None
             }
@@ -247,12 +247,12 @@ fn known_of(test: &Test) -> Option<Condition>
 }
 
 // Whether the top card of a location has a value.
-fn top_of(card: &CardExpr, name: u16, value: u16) -> Option<Condition>
-    ensures meaning { IfSome result (IsConditionOf (has_value (card_seen card.now) name value)) }
+fn top_of(card: &CardExpr, name: u16, value: u16) -> Option<GuardTest>
+    ensures meaning { IfSome result (IsGuardTestOf (has_value (card_seen card.now) name value)) }
     ensures found { is_some result ≡ is_fixed_top (card_seen card.now) }
 {
     match fixed_top(card) {
-        Some(at) => Some(Condition::Top { at, name, value }),
+        Some(at) => Some(GuardTest::Top { at, name, value }),
         None => None,
     }
 }
@@ -264,14 +264,14 @@ fn among_in_sense(
     bound: u32,
     sense: Sense,
     inner: &Test,
-) -> Option<Condition>
+) -> Option<GuardTest>
     requires { IsFixedLoc (loc_seen among) }
-    ensures meaning { IfSome result (IsConditionOf (over_domain any (each_card (cards_in (loc_seen among))) bound
+    ensures meaning { IfSome result (IsGuardTestOf (over_domain any (each_card (cards_in (loc_seen among))) bound
         (in_sense sense (test_seen inner.now)))) }
     ensures found { is_some result ≡ is_card_test 1 (test_seen inner.now) }
 {
     match card_test_of(inner, 1) {
-        Some(card_test) => Some(Condition::Among {
+        Some(card_test) => Some(GuardTest::Among {
             any,
             among,
             bound,
@@ -282,9 +282,9 @@ fn among_in_sense(
     }
 }
 
-fn among_in(any: bool, among: Loc, bound: u32, inner: &Test) -> Option<Condition>
+fn among_in(any: bool, among: Loc, bound: u32, inner: &Test) -> Option<GuardTest>
     requires { IsFixedLoc (loc_seen among) }
-    ensures meaning { IfSome result (IsConditionOf
+    ensures meaning { IfSome result (IsGuardTestOf
         (over_domain any (each_card (cards_in (loc_seen among))) bound (test_seen inner.now))) }
     ensures found { is_some result ≡ in_some_sense (is_card_test 1) (test_seen inner.now) }
 {
@@ -295,8 +295,8 @@ fn among_in(any: bool, among: Loc, bound: u32, inner: &Test) -> Option<Condition
     }
 }
 
-fn among_of(any: bool, domain: &Domain, bound: u32, inner: &Test) -> Option<Condition>
-    ensures meaning { IfSome result (IsConditionOf
+fn among_of(any: bool, domain: &Domain, bound: u32, inner: &Test) -> Option<GuardTest>
+    ensures meaning { IfSome result (IsGuardTestOf
         (over_domain any (domain_seen domain.now) bound (test_seen inner.now))) }
     ensures found { is_some result
         ≡ is_fixed_domain (domain_seen domain.now) && in_some_sense (is_card_test 1) (test_seen inner.now) }
@@ -308,8 +308,8 @@ fn among_of(any: bool, domain: &Domain, bound: u32, inner: &Test) -> Option<Cond
 }
 
 // A condition of no variable's card.
-fn fixed_condition(test: &Test) -> Option<Condition>
-    ensures meaning { IfSome result (IsConditionOf (test_seen test.now)) }
+fn fixed_condition(test: &Test) -> Option<GuardTest>
+    ensures meaning { IfSome result (IsGuardTestOf (test_seen test.now)) }
     ensures found { is_some result ≡ is_fixed_condition (test_seen test.now) }
 {
     match test {
@@ -320,21 +320,21 @@ fn fixed_condition(test: &Test) -> Option<Condition>
     }
 }
 
-fn condition_of(test: &Test) -> Option<Condition>
-    ensures meaning { IfSome result (IsConditionOf (test_seen test.now)) }
-    ensures found { is_some result ≡ is_condition (test_seen test.now) }
+fn guard_test_of(test: &Test) -> Option<GuardTest>
+    ensures meaning { IfSome result (IsGuardTestOf (test_seen test.now)) }
+    ensures found { is_some result ≡ is_guard_test (test_seen test.now) }
 {
     match card_test_of(test, 0) {
-        Some(card_test) => Some(Condition::OfCard(card_test)),
+        Some(card_test) => Some(GuardTest::OfCard(card_test)),
         None => fixed_condition(test),
     }
 }
 
 fn part_in_sense(sense: Sense, test: &Test) -> Option<GuardPart>
     ensures meaning { IfSome result (IsPartOf (in_sense sense (test_seen test.now))) }
-    ensures found { is_some result ≡ is_condition (test_seen test.now) }
+    ensures found { is_some result ≡ is_guard_test (test_seen test.now) }
 {
-    match condition_of(test) {
+    match guard_test_of(test) {
         Some(condition) => Some(GuardPart { sense, condition }),
         None => None,
     }
@@ -342,7 +342,7 @@ fn part_in_sense(sense: Sense, test: &Test) -> Option<GuardPart>
 
 fn part_of(test: &Test) -> Option<GuardPart>
     ensures meaning { IfSome result (IsPartOf (test_seen test.now)) }
-    ensures found { is_some result ≡ in_some_sense is_condition (test_seen test.now) }
+    ensures found { is_some result ≡ in_some_sense is_guard_test (test_seen test.now) }
 {
     match test {
         Test::Ne(inner) => part_in_sense(Sense::Ne, inner),
@@ -389,7 +389,7 @@ fn sole_guard(loc: Loc, test: &Test) -> Option<Guard>
     ensures place { IfSome result (λ guard. guard.loc ≡ loc) }
     ensures same { IfSome result (λ guard. guard_meant guard ≡ test_seen test.now) }
     ensures fixed { IfSome result IsFixedGuard }
-    ensures found { is_some result ≡ in_some_sense is_condition (test_seen test.now) }
+    ensures found { is_some result ≡ in_some_sense is_guard_test (test_seen test.now) }
 {
     match part_of(test) {
         Some(part) => {

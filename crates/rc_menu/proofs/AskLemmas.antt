@@ -11,8 +11,8 @@ use Rattle.rc_play_spec.specs.Menu.{Item as PureItem}
 use Rattle.rc_flow.specs.Reads.{reads_test}
 use Rattle.rc_flow.proofs.Unread.{unread_test}
 use Rattle.rc_rules.proofs.Elements.{drop_here}
-use Rattle.rc_menu.specs.declared.asks.CardAsk.{CardAsk}
-use Rattle.rc_menu.specs.declared.asks.CardAsk.TheVariants.{Value, CardTest, Whole}
+use Rattle.rc_menu.specs.declared.asks.SoughtCard.{SoughtCard}
+use Rattle.rc_menu.specs.declared.asks.SoughtCard.TheVariants.{Worth, Whole, Value, CardTest}
 use Rattle.rc_ast.specs.declared.expressions.Test.{Test}
 use Rattle.rc_ast.specs.Expressions.{test_seen, tests_seen}
 use Rattle.rc_value.proofs.Steps.{values_here}
@@ -67,12 +67,12 @@ module _ (s : PureScene CardValue) (vars : List (PureBind CardValue)) where
   pub all_fit_none : AllFit vars []
   all_fit_none = All-nil (λ ask. length vars + ask_depth ask ≤ 5)
 
-  pub all_fit_more : (asks : List CardAsk) (ask : CardAsk) → AllFit vars asks → length vars + ask_depth ask ≤ 5 → AllFit vars (asks ++ ask ∷ [])
+  pub all_fit_more : (asks : List SoughtCard) (ask : SoughtCard) → AllFit vars asks → length vars + ask_depth ask ≤ 5 → AllFit vars (asks ++ ask ∷ [])
   all_fit_more asks ask h k =
       All-append (λ a. length vars + ask_depth a ≤ 5) asks (ask ∷ []) h (All-cons (λ a. length vars + ask_depth a ≤ 5) ask [] k all_fit_none)
 
   -- a test that is asked
-  pub joined_asked : (t : PureTest) (any : Bool) (old new : List CardAsk) (ask : CardAsk) → new ≡ old ++ ask ∷ [] →
+  pub joined_asked : (t : PureTest) (any : Bool) (old new : List SoughtCard) (ask : SoughtCard) → new ≡ old ++ ask ∷ [] →
       ((c : CardValue) → told_of s vars t c ≡ ask_value s vars c ask) → IsJoined s vars t any false old new
   joined_asked t any old new ask grown is = λ c more.
       ap (λ b. joined any (map (ask_value s vars c) old ++ b ∷ more)) (is c)
@@ -81,26 +81,26 @@ module _ (s : PureScene CardValue) (vars : List (PureBind CardValue)) where
       ∙ ap (λ xs. joined any (map (ask_value s vars c) xs ++ more)) (sym grown)
 
   -- one that is the same for all cards
-  joined_same : (t : PureTest) (any b settled : Bool) (old : List CardAsk) → ((c : CardValue) → told_of s vars t c ≡ b) → settled ≡ beq b any →
+  joined_same : (t : PureTest) (any b settled : Bool) (old : List SoughtCard) → ((c : CardValue) → told_of s vars t c ≡ b) → settled ≡ beq b any →
       IsJoined s vars t any settled old old
   joined_same t any b settled old same so = λ c more.
       ap (λ x. joined any (map (ask_value s vars c) old ++ x ∷ more)) (same c)
       ∙ joined_with any b (map (ask_value s vars c) old) more
       ∙ ap (λ x. cond x any (joined any (map (ask_value s vars c) old ++ more))) (sym so)
 
-  pub joined_known : (t : PureTest) (any b settled : Bool) (old : List CardAsk) (count : ℕ) → count ≡ length vars + 1 → IsKnownAt s count t b →
+  pub joined_known : (t : PureTest) (any b settled : Bool) (old : List SoughtCard) (count : ℕ) → count ≡ length vars + 1 → IsKnownAt s count t b →
       settled ≡ beq b any → IsJoined s vars t any settled old old
   joined_known t any b settled old count is known so =
       joined_same t any b settled old (λ c. known (vars ++ card_bound c ∷ []) (length-append vars (card_bound c ∷ []) ∙ sym is)) so
 
   -- one that doesn't read the variable
-  pub joined_once : (t : PureTest) (any b settled : Bool) (old : List CardAsk) (inside : List (PureBind CardValue)) → inside ≡ vars ++ player_bound 0 ∷ [] →
+  pub joined_once : (t : PureTest) (any b settled : Bool) (old : List SoughtCard) (inside : List (PureBind CardValue)) → inside ≡ vars ++ player_bound 0 ∷ [] →
       reads_test (length vars) t ≡ false → b ≡ test_value s inside t → settled ≡ beq b any → IsJoined s vars t any settled old old
   joined_once t any b settled old inside in' unread is so =
       joined_same t any b settled old (λ c. unread_test s vars (card_bound c) (player_bound 0) [] t unread ∙ ap (λ v. test_value s v t) (sym in') ∙ sym is) so
 
   -- a single one
-  pub joined_single : (t : PureTest) (settled : Bool) (old new : List CardAsk) → old ≡ [] → IsJoined s vars t true settled old new →
+  pub joined_single : (t : PureTest) (settled : Bool) (old new : List SoughtCard) → old ≡ [] → IsJoined s vars t true settled old new →
       (c : CardValue) → told_of s vars t c ≡ cond settled true (joined true (map (ask_value s vars c) new))
   joined_single t settled old new none h = λ c.
       sym (joined_one true (told_of s vars t c))
@@ -109,39 +109,39 @@ module _ (s : PureScene CardValue) (vars : List (PureBind CardValue)) where
 
   -- tests one by one
   module _ (ts : List Test) (any : Bool) where
-    abbrev pub left_after : List CardAsk → ℕ → CardValue → Bool
+    abbrev pub left_after : List SoughtCard → ℕ → CardValue → Bool
     left_after asks i c = joined any (map (ask_value s vars c) asks ++ tests_value s (vars ++ card_bound c ∷ []) (tests_seen (drop i ts)))
 
     abbrev pub whole_of : CardValue → Bool
     whole_of c = joined any (tests_value s (vars ++ card_bound c ∷ []) (tests_seen ts))
 
-    settle_here : (i : ℕ) (t : Test) (settled : Bool) (old new : List CardAsk) → i < length ts → t ≡ get_or ts i t →
+    settle_here : (i : ℕ) (t : Test) (settled : Bool) (old new : List SoughtCard) → i < length ts → t ≡ get_or ts i t →
         IsJoined s vars (test_seen t) any settled old new → ((c : CardValue) → left_after old i c ≡ whole_of c) →
         (c : CardValue) → cond settled any (left_after new (i + 1) c) ≡ whole_of c
     settle_here i t settled old new lt is h told = λ c.
         sym (h c (tests_value s (vars ++ card_bound c ∷ []) (tests_seen (drop (i + 1) ts))))
         ∙ ap (λ bs. joined any (map (ask_value s vars c) old ++ bs)) (sym (values_here s (vars ++ card_bound c ∷ []) ts i t lt is)) ∙ told c
 
-    pub settle_on : (i : ℕ) (t : Test) (settled : Bool) (old new : List CardAsk) → i < length ts → t ≡ get_or ts i t →
+    pub settle_on : (i : ℕ) (t : Test) (settled : Bool) (old new : List SoughtCard) → i < length ts → t ≡ get_or ts i t →
         IsJoined s vars (test_seen t) any settled old new → ((c : CardValue) → left_after old i c ≡ whole_of c) → settled ≡ false →
         (c : CardValue) → left_after new (i + 1) c ≡ whole_of c
     settle_on i t settled old new lt is h told not' = λ c.
         ap (λ b. cond b any (left_after new (i + 1) c)) (sym not') ∙ settle_here i t settled old new lt is h told c
 
-    pub settle_stop : (i : ℕ) (t : Test) (settled : Bool) (old new : List CardAsk) → i < length ts → t ≡ get_or ts i t →
+    pub settle_stop : (i : ℕ) (t : Test) (settled : Bool) (old new : List SoughtCard) → i < length ts → t ≡ get_or ts i t →
         IsJoined s vars (test_seen t) any settled old new → ((c : CardValue) → left_after old i c ≡ whole_of c) → settled ≡ true →
         (c : CardValue) → whole_of c ≡ any
     settle_stop i t settled old new lt is h told yes' = λ c.
         sym (ap (λ b. cond b any (left_after new (i + 1) c)) (sym yes') ∙ settle_here i t settled old new lt is h told c)
 
-    pub settle_end : (i : ℕ) (asks : List CardAsk) → length ts ≤ i → ((c : CardValue) → left_after asks i c ≡ whole_of c) →
+    pub settle_end : (i : ℕ) (asks : List SoughtCard) → length ts ≤ i → ((c : CardValue) → left_after asks i c ≡ whole_of c) →
         (c : CardValue) → whole_of c ≡ joined any (map (ask_value s vars c) asks)
     settle_end i asks le told = λ c.
         sym (told c)
         ∙ ap (λ xs. joined any (map (ask_value s vars c) asks ++ tests_value s (vars ++ card_bound c ∷ []) (tests_seen xs))) (drop_all i ts le)
         ∙ ap (joined any) (append-nil (map (ask_value s vars c) asks))
 
-  pub fit_here : (asks : List CardAsk) (i : ℕ) (ask : CardAsk) → AllFit vars asks → i < length asks → ask ≡ get_or asks i ask → length vars + ask_depth ask ≤ 5
+  pub fit_here : (asks : List SoughtCard) (i : ℕ) (ask : SoughtCard) → AllFit vars asks → i < length asks → ask ≡ get_or asks i ask → length vars + ask_depth ask ≤ 5
   fit_here asks i ask h lt is = subst (λ a. length vars + ask_depth a ≤ 5) (sym is) (h i ask lt)
 
 -- an item where it passes
@@ -163,12 +163,14 @@ told_asked told false any rest is e = e
 
 -- by the row of all cards' values
 module _ (s : PureScene CardValue) (vars : List (PureBind CardValue)) where
-  pub met_here : (c : CardValue) (ask : CardAsk) → asks_value ask ≡ true → met_value (id_of c) ask ≡ ask_value s vars c ask
+  pub met_here : (c : CardValue) (ask : SoughtCard) → asks_value ask ≡ true → met_value (id_of c) ask ≡ ask_value s vars c ask
   met_here c (Value value row) by_row = refl
   met_here c (CardTest equal value row) by_row = refl
+  met_here c (Worth w) by_row = absurd (cc)
   met_here c (Whole t) by_row = absurd (cc)
 
-  pub met_depth : (ask : CardAsk) → asks_value ask ≡ true → ask_depth ask ≡ 0
+  pub met_depth : (ask : SoughtCard) → asks_value ask ≡ true → ask_depth ask ≡ 0
   met_depth (Value value row) by_row = refl
   met_depth (CardTest equal value row) by_row = refl
+  met_depth (Worth w) by_row = absurd (cc)
   met_depth (Whole t) by_row = absurd (cc)

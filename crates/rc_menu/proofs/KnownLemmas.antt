@@ -9,7 +9,7 @@ use Rattle.rc_play_spec.specs.Value.{Scene as PureScene, Bind as PureBind, attr_
 use Rattle.rc_code.specs.declared.atoms.Comparator.{Comparator}
 use Rattle.rc_menu.specs.declared.known.AtHand.{AtHand}
 use Rattle.rc_menu.specs.declared.known.AtHand.TheVariants.{OfCard, Holds, Unclear}
-use Rattle.rc_value.specs.declared.wanted.WantedValue.{WantedValue}
+use Rattle.rc_value.specs.declared.wanted.SoughtValue.{SoughtValue}
 use Rattle.rc_menu.specs.Known.{hand_turned, turned, wanted_turned, IsAtHand, IsFixedNumber, IsKnownAt, IsKnownOver, IsKnownPair, IsTurned}
 use Rattle.rc_value.specs.Comparing.{compare}
 use Rattle.rc_value.specs.Over.{over}
@@ -55,7 +55,7 @@ module _ (s : PureScene CardValue) where
   pair_at count how a b t (Some is) same h = λ vars few. same vars ∙ h vars
 
   -- how a value is wanted for an opposite
-  pub wanted_opposite : (count : ℕ) (opposite : Bool) (t t' : Test) (w w' : WantedValue) → IsTurned opposite t t' → w' ≡ wanted_turned opposite w →
+  pub wanted_opposite : (count : ℕ) (opposite : Bool) (t t' : Test) (w w' : SoughtValue) → IsTurned opposite t t' → w' ≡ wanted_turned opposite w →
       IsWantedAt s count t w → IsWantedAt s count t' w'
   wanted_opposite count opposite t t' w w' how is h = λ vars few c.
       how s (vars ++ card_bound c ∷ []) ∙ ap (turned opposite) (h vars few c) ∙ turned_meets opposite w.equal w.value (attr_of s w.name c)
@@ -82,7 +82,7 @@ module _ (s : PureScene CardValue) where
   over_domain true bound domain inner vars = refl
   over_domain false bound domain inner vars = refl
 
-  pub known_there : (scope : List (PureBind CardValue)) (count : ℕ) (any : Bool) (domain : Domain) (inner : Test) (loc : Loc) (w : WantedValue) (is : Bool) →
+  pub known_there : (scope : List (PureBind CardValue)) (count : ℕ) (any : Bool) (domain : Domain) (inner : Test) (loc : Loc) (w : SoughtValue) (is : Bool) →
       domain ≡ each_card (cards_in loc) → IsFixedOwner loc.who → IsWantedAt s count inner w →
       is ≡ over any (wanted_value s w) (coll_value s scope (cards_in loc)) → IsKnownOver s count any domain inner is
   known_there scope count any domain inner loc w is cards fixed wanted e = λ bound vars few.

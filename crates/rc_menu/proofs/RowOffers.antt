@@ -9,21 +9,22 @@ use Rattle.rc_play_spec.specs.Value.{Scene as PureScene, Bind as PureBind, coll_
 use Rattle.rc_ast.specs.Names.{loc_seen}
 use Rattle.rc_code.specs.declared.guards.Guard.{Guard}
 use Rattle.rc_code.specs.Guards.{guard_meant, IsGuardOf}
-use Rattle.rc_menu.specs.declared.asks.CardAsk.{CardAsk}
-use Rattle.rc_menu.specs.declared.asks.CardAsk.TheVariants.{Value, CardTest, Whole}
+use Rattle.rc_menu.specs.declared.asks.SoughtCard.{SoughtCard}
+use Rattle.rc_menu.specs.declared.asks.SoughtCard.TheVariants.{Worth, Whole, Value, CardTest}
 use Rattle.rc_menu.specs.declared.asks.Parts.{Parts}
 use Rattle.rc_menu.specs.Asks.{ask_value, asks_value, met_value, joined, told_of, IsInParts}
 use Rattle.rc_menu.proofs.Offers.{each_mapped, offered_if, same_offers}
 
 -- where values are all that is asked, a card's id tells all
 module _ (s : PureScene CardValue) (vars : List (PureBind CardValue)) where
-  met_all : (c : CardValue) (asks : List CardAsk) → list_all asks_value asks ≡ true → map (met_value (id_of c)) asks ≡ map (ask_value s vars c) asks
+  met_all : (c : CardValue) (asks : List SoughtCard) → list_all asks_value asks ≡ true → map (met_value (id_of c)) asks ≡ map (ask_value s vars c) asks
   met_all c [] sought = refl
   met_all c (Value value row ∷ asks) sought = ap (λ bs. met_value (id_of c) (Value value row) ∷ bs) (met_all c asks sought)
   met_all c (CardTest equal value row ∷ asks) sought = ap (λ bs. met_value (id_of c) (CardTest equal value row) ∷ bs) (met_all c asks sought)
+  met_all c (Worth w ∷ asks) sought = absurd (cc)
   met_all c (Whole t ∷ asks) sought = absurd (cc)
 
-  pub row_offers : (asks : List CardAsk) (any sought : Bool) (ids : List ℕ) (cards : List CardValue) → sought ≡ list_all asks_value asks → sought ≡ true → ids ≡ map id_of cards →
+  pub row_offers : (asks : List SoughtCard) (any sought : Bool) (ids : List ℕ) (cards : List CardValue) → sought ≡ list_all asks_value asks → sought ≡ true → ids ≡ map id_of cards →
       from_each (λ id. cond (joined any (map (met_value id) asks)) ([] ∷ []) []) 0 ids
       ≡ from_each (λ c. cond (joined any (map (ask_value s vars c) asks)) ([] ∷ []) []) 0 cards
   row_offers asks any sought ids cards is so are =
@@ -33,7 +34,7 @@ module _ (s : PureScene CardValue) (vars : List (PureBind CardValue)) where
       (λ c. ap (joined any) (met_all c asks (sym is ∙ so)))
 
   -- the same of a guard in parts
-  pub part_offers : (t : PureTest) (parts : Parts) (asks : List CardAsk) (ids : List ℕ) (cards : List CardValue) → list_all asks_value asks ≡ true → ids ≡ map id_of cards →
+  pub part_offers : (t : PureTest) (parts : Parts) (asks : List SoughtCard) (ids : List ℕ) (cards : List CardValue) → list_all asks_value asks ≡ true → ids ≡ map id_of cards →
       IsInParts s vars t parts asks →
       from_each (λ id. cond (cond parts.settled parts.any (joined parts.any (map (met_value id) asks))) ([] ∷ []) []) 0 ids
       ≡ from_each (λ c. cond (told_of s vars t c) ([] ∷ []) []) 0 cards
@@ -57,7 +58,7 @@ joined_sole true false = refl
 joined_sole false true = refl
 joined_sole false false = refl
 
-pub sole_offers : (ask : CardAsk) (any : Bool) (asks : List CardAsk) (ids : List ℕ) → asks ≡ ask ∷ [] →
+pub sole_offers : (ask : SoughtCard) (any : Bool) (asks : List SoughtCard) (ids : List ℕ) → asks ≡ ask ∷ [] →
     from_each (λ id. cond (met_value id ask) ([] ∷ []) []) 0 ids ≡ from_each (λ id. cond (joined any (map (met_value id) asks)) ([] ∷ []) []) 0 ids
 sole_offers ask any asks ids is =
     ap (λ f. from_each f 0 ids)

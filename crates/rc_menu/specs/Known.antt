@@ -6,7 +6,7 @@ use Rattle.rc_play_spec.specs.Scene.{CardValue}
 use Rattle.rc_menu.specs.declared.known.AtHand.{AtHand}
 use Rattle.rc_menu.specs.declared.known.AtHand.TheVariants.{OfCard, Holds, Unclear}
 use Rattle.rc_code.specs.declared.atoms.Comparator.{Comparator}
-use Rattle.rc_value.specs.declared.wanted.WantedValue.{WantedValue}
+use Rattle.rc_value.specs.declared.wanted.SoughtValue.{SoughtValue}
 use Rattle.rc_value.specs.Comparing.{compare}
 use Rattle.rc_value.specs.Wanted.{IsWanted}
 
@@ -43,7 +43,7 @@ IsAtHand s vars t (OfCard wanted) = IsWanted s vars t wanted
 IsAtHand s vars t (Holds holds) = IsKnownAt s (length vars + 1) t holds
 IsAtHand s vars t Unclear = Unit {0}
 
-abbrev pub wanted_turned : Bool → WantedValue → WantedValue
+abbrev pub wanted_turned : Bool → SoughtValue → SoughtValue
 wanted_turned opposite wanted =
     record { name = wanted.name; value = wanted.value; equal = turned opposite wanted.equal }
 

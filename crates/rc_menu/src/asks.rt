@@ -1,11 +1,11 @@
 //! Guards of one domain, in parts: what doesn't read the variable that runs over it is asked once.
-ghost use Rattle.std.specs.Prelude.{◌≡◌, ◌+◌, ◌<◌, ◌≤◌, ◌++◌, ◌∷◌, [], length, map, slice_index_or, if◌then◌else◌, IfSome, Some, None, true, ℕ};
+ghost use Rattle.std.specs.Prelude.{◌≡◌, ◌+◌, ◌<◌, ◌≤◌, ◌++◌, ◌∷◌, [], length, map, slice_index_or, if◌then◌else◌, IfSome, Some, None, true, false, ℕ};
 ghost use Rattle.std.specs.List.{list_all};
 ghost use Rattle.rc_play_spec.specs.Value.{card_bound, both, nat_same, tests_value};
 ghost use Rattle.rc_play_spec.specs.Scene.{CardValue};
 ghost use Rattle.rc_ast.specs.Expressions.{test_seen, tests_seen};
 ghost use Rattle.rc_menu.specs.Asks.{ask_value, asks_value, met_value, ask_depth, AllFit, joined, told_of, IsJoined, IsInParts};
-ghost use Rattle.rc_menu.specs.declared.asks.CardAsk.TheVariants.{Value, Whole};
+ghost use Rattle.rc_menu.specs.declared.asks.SoughtCard.TheVariants.{Value, Whole};
 ghost use Rattle.rc_value.specs.Cards.{value_seen};
 ghost use Rattle.rc_value.specs.Depth.{test_depth, tests_depth};
 ghost use Rattle.rc_value.specs.Scene.{scene_seen};
@@ -16,14 +16,17 @@ use arrayvec::ArrayVec;
 use rc_ast::Test;
 use rc_flow::test_reads;
 use rc_value::{
-    Bind, Bindings, Card, Scene, Sought, WantedValue, is_so, sought_of, test_of, value_in,
+    Bind, Bindings, Card, Scene, Sought, SoughtValue, SoughtWorth, is_so, is_worth, sought_of,
+    test_of, value_in, worth_once,
 };
 
 /// What is asked of each card that the innermost variable stands for. Most guards ask for values, which stand apart
 /// from other tests: for a value, or as a value is to be or not to be, in the row of all cards' values for an
 /// attribute.
 #[derive(Clone, Copy)]
-pub(crate) enum CardAsk<'t> {
+pub(crate) enum SoughtCard<'t> {
+    Worth(SoughtWorth),
+    Whole(&'t Test),
     Value {
         value: u16,
         row: &'t [Option<u16>],
@@ -33,17 +36,16 @@ pub(crate) enum CardAsk<'t> {
         value: Option<u16>,
         row: &'t [Option<u16>],
     },
-    Whole(&'t Test),
 }
 
-impl<'t> Default for CardAsk<'t> {
-    fn default() -> CardAsk<'t> {
-        CardAsk::Value { value: 0, row: &[] }
+impl<'t> Default for SoughtCard<'t> {
+    fn default() -> SoughtCard<'t> {
+        SoughtCard::Value { value: 0, row: &[] }
     }
 }
 
 /// What a guard asks of each card.
-pub(crate) type Asks<'t> = ArrayVec<CardAsk<'t>, 4>;
+pub(crate) type Asks<'t> = ArrayVec<SoughtCard<'t>, 4>;
 
 /// What is known of a guard for all cards: whether it is settled, and, where it isn't, whether one yes is enough. Where
 /// it is settled, the second says which way.
@@ -55,13 +57,13 @@ pub(crate) struct Parts {
 
 /// How a value is wanted, asked by the row of all cards' values.
 #[inline(always)]
-pub(crate) fn ask_in<'t>(row: &'t [Option<u16>], wanted: WantedValue) -> CardAsk<'t>
+pub(crate) fn ask_in<'t>(row: &'t [Option<u16>], wanted: SoughtValue) -> SoughtCard<'t>
     ensures value { (id : ℕ) → met_value id result ≡ meets wanted (slice_index_or row.now id None) }
     ensures by_row { asks_value result ≡ true }
 {
     match wanted.value {
-        Some(value) if wanted.equal => CardAsk::Value { value, row },
-        value => CardAsk::CardTest {
+        Some(value) if wanted.equal => SoughtCard::Value { value, row },
+        value => SoughtCard::CardTest {
             equal: wanted.equal,
             value,
             row,
@@ -75,9 +77,9 @@ pub(crate) fn ask_in<'t>(row: &'t [Option<u16>], wanted: WantedValue) -> CardAsk
 fn ask_by<'t>(
     scene: &'t Scene,
     scope: &Bindings,
-    wanted: WantedValue,
+    wanted: SoughtValue,
     test: &'t Test,
-) -> CardAsk<'t>
+) -> SoughtCard<'t>
     requires wanted { IsWanted (scene_seen scene.now) scope.now (test_seen test.now) wanted }
     requires deep { length scope.now + (1 + test_depth (test_seen test.now)) ≤ 5 }
     ensures value { (c : CardValue) → told_of (scene_seen scene.now) scope.now (test_seen test.now) c
@@ -86,11 +88,11 @@ fn ask_by<'t>(
 {
     match scene.lookup.values(wanted.name) {
         Some(row) => ask_in(row, wanted),
-        None => CardAsk::Whole(test),
+        None => SoughtCard::Whole(test),
     }
 }
 
-fn ask_of<'t>(scene: &'t Scene, scope: &Bindings, test: &'t Test) -> CardAsk<'t>
+fn ask_of<'t>(scene: &'t Scene, scope: &Bindings, test: &'t Test) -> SoughtCard<'t>
     requires deep { length scope.now + (1 + test_depth (test_seen test.now)) ≤ 5 }
     ensures value { (c : CardValue) → told_of (scene_seen scene.now) scope.now (test_seen test.now) c
         ≡ ask_value (scene_seen scene.now) scope.now c result }
@@ -100,10 +102,19 @@ fn ask_of<'t>(scene: &'t Scene, scope: &Bindings, test: &'t Test) -> CardAsk<'t>
         Test::EqAttr(_, _, _, _) | Test::Ne(_) | Test::Not(_) => {
             match sought_of(scene, scope, test) {
                 Some(Sought::Value(wanted)) => ask_by(scene, scope, wanted, test),
-                _ => CardAsk::Whole(test),
+                Some(Sought::Worth(worth)) => SoughtCard::Worth(worth),
+                _ => SoughtCard::Whole(test),
             }
         }
-        _ => CardAsk::Whole(test),
+        Test::EqInt(_, _)
+        | Test::Less(_, _)
+        | Test::LessEq(_, _)
+        | Test::More(_, _)
+        | Test::MoreEq(_, _) => match worth_once(scene, scope, test) {
+            Some(worth) => SoughtCard::Worth(worth),
+            None => SoughtCard::Whole(test),
+        },
+        _ => SoughtCard::Whole(test),
     }
 }
 
@@ -117,24 +128,33 @@ pub(crate) fn has_value(row: &[Option<u16>], value: u16, id: u16) -> bool
 
 // The answer for a card.
 #[inline(always)]
-fn answer(scene: &Scene, scope: &Bindings, ask: &CardAsk, card: Card) -> bool
+fn answer(scene: &Scene, scope: &Bindings, ask: &SoughtCard, card: Card) -> bool
     requires fits { length scope.now + ask_depth ask.now ≤ 5 }
     ensures { result ≡ ask_value (scene_seen scene.now) scope.now (value_seen card) ask.now }
 {
     match ask {
-        CardAsk::Value { value, row } => has_value(*row, *value, card.id()),
-        CardAsk::CardTest { equal, value, row } => is_so(*equal, *value, value_in(*row, card.id())),
-        CardAsk::Whole(test) => holds_for(scene, scope, *test, card),
+        SoughtCard::Value { value, row } => has_value(*row, *value, card.id()),
+        SoughtCard::CardTest { equal, value, row } => is_so(
+            *equal,
+            *value,
+            value_in(*row, card.id()),
+        ),
+        _ => answer_apart(scene, scope, ask, card),
     }
 }
 
-// Whether a test holds for a card. It stands apart from the loop over the cards, which mostly asks for values.
+// The same, where it is not by a value. It stands apart from the loop over the cards, which mostly asks for values.
 #[inline(never)]
-fn holds_for(scene: &Scene, scope: &Bindings, test: &Test, card: Card) -> bool
-    requires fits { length scope.now + (1 + test_depth (test_seen test.now)) ≤ 5 }
-    ensures { result ≡ told_of (scene_seen scene.now) scope.now (test_seen test.now) (value_seen card) }
+fn answer_apart(scene: &Scene, scope: &Bindings, ask: &SoughtCard, card: Card) -> bool
+    requires apart { asks_value ask.now ≡ false }
+    requires fits { length scope.now + ask_depth ask.now ≤ 5 }
+    ensures { result ≡ ask_value (scene_seen scene.now) scope.now (value_seen card) ask.now }
 {
-    test_of(scene, &scope.with(Bind::Card(card)), test)
+    match ask {
+        SoughtCard::Worth(worth) => is_worth(scene, *worth, card),
+        SoughtCard::Whole(test) => test_of(scene, &scope.with(Bind::Card(card)), *test),
+        _ => unreachable!(),
+    }
 }
 
 /// All the answers for a card in one.
@@ -142,7 +162,7 @@ fn holds_for(scene: &Scene, scope: &Bindings, test: &Test, card: Card) -> bool
 pub(crate) fn joined_answer(
     scene: &Scene,
     scope: &Bindings,
-    asks: &[CardAsk],
+    asks: &[SoughtCard],
     any: bool,
     card: Card,
 ) -> bool
@@ -289,7 +309,7 @@ fn outer_parts<'t>(
 }
 
 /// Whether values are all that is asked.
-pub(crate) fn are_sought(asks: &[CardAsk]) -> bool
+pub(crate) fn are_sought(asks: &[SoughtCard]) -> bool
     ensures { result ≡ list_all asks_value asks.now }
 {
     for place in 0..asks.len() {
@@ -301,23 +321,23 @@ pub(crate) fn are_sought(asks: &[CardAsk]) -> bool
 }
 
 #[inline(always)]
-fn is_sought(ask: &CardAsk) -> bool
+fn is_sought(ask: &SoughtCard) -> bool
     ensures { result ≡ asks_value ask.now }
 {
     match ask {
-        CardAsk::Value { value: _, row: _ } => true,
-        CardAsk::CardTest {
+        SoughtCard::Value { value: _, row: _ } => true,
+        SoughtCard::CardTest {
             equal: _,
             value: _,
             row: _,
         } => true,
-        CardAsk::Whole(_) => false,
+        _ => false,
     }
 }
 
 /// All the answers for the card with an id in one, where values are all that is asked.
 #[inline(always)]
-pub(crate) fn joined_met(asks: &[CardAsk], any: bool, id: u16) -> bool
+pub(crate) fn joined_met(asks: &[SoughtCard], any: bool, id: u16) -> bool
     ensures { result ≡ joined any (map (met_value id) asks.now) }
 {
     for place in 0..asks.len() {
@@ -329,26 +349,26 @@ pub(crate) fn joined_met(asks: &[CardAsk], any: bool, id: u16) -> bool
 }
 
 #[inline(always)]
-fn is_met(ask: &CardAsk, id: u16) -> bool
+fn is_met(ask: &SoughtCard, id: u16) -> bool
     ensures { result ≡ met_value id ask.now }
 {
     match ask {
-        CardAsk::Value { value, row } => has_value(*row, *value, id),
-        CardAsk::CardTest { equal, value, row } => is_so(*equal, *value, value_in(*row, id)),
-        CardAsk::Whole(_) => false,
+        SoughtCard::Value { value, row } => has_value(*row, *value, id),
+        SoughtCard::CardTest { equal, value, row } => is_so(*equal, *value, value_in(*row, id)),
+        _ => false,
     }
 }
 
 /// The row of values and the value that is asked for in it, where that is all that is asked.
 #[inline(always)]
-pub(crate) fn sole_value<'t>(asks: &[CardAsk<'t>]) -> Option<(&'t [Option<u16>], u16)>
+pub(crate) fn sole_value<'t>(asks: &[SoughtCard<'t>]) -> Option<(&'t [Option<u16>], u16)>
     ensures { IfSome result (λ sole. asks.now ≡ Value sole.1 sole.0 ∷ []) }
 {
     if asks.len() != 1 {
         return None;
     }
     match asks[0] {
-        CardAsk::Value { value, row } => Some((row, value)),
+        SoughtCard::Value { value, row } => Some((row, value)),
         _ => None,
     }
 }
@@ -361,7 +381,7 @@ fn sole_list<'t>(asks: &Asks<'t>) -> Option<&'t Test>
         return None;
     }
     match asks[0] {
-        CardAsk::Whole(test) => test_if_list(test),
+        SoughtCard::Whole(test) => test_if_list(test),
         _ => None,
     }
 }

@@ -13,7 +13,7 @@ ghost use Rattle.rc_value.specs.Wanted.{wanted_value, IsFixedOwner};
 use rc_ast::{CollExpr, Domain, IntExpr, Loc, Test};
 use rc_code::Comparator;
 use rc_value::{
-    Bindings, Scene, Sought, WantedValue, are_as_sought, are_met_in, cards_of, compared_at_hand,
+    Bindings, Scene, Sought, SoughtValue, are_as_sought, are_met_in, cards_of, compared_at_hand,
     equal_at, ids_of, is_fixed_collection, is_fixed_owner, wanted_at,
 };
 
@@ -21,7 +21,7 @@ use rc_value::{
 /// holds for any card.
 #[derive(Clone, Copy)]
 pub(crate) enum AtHand {
-    OfCard(WantedValue),
+    OfCard(SoughtValue),
     Holds(bool),
     Unclear,
 }
@@ -50,10 +50,10 @@ fn plain_of<'t>(test: &'t Test) -> (&'t Test, bool)
 
 /// How a value is wanted for the opposite, or the same.
 #[inline(always)]
-pub(crate) fn turned_wanted(opposite: bool, wanted: WantedValue) -> WantedValue
+pub(crate) fn turned_wanted(opposite: bool, wanted: SoughtValue) -> SoughtValue
     ensures { result ≡ wanted_turned opposite wanted }
 {
-    WantedValue {
+    SoughtValue {
         name: wanted.name,
         value: wanted.value,
         equal: wanted.equal != opposite,
@@ -196,7 +196,7 @@ pub(crate) fn are_there(
     scene: &Scene,
     scope: &Bindings,
     loc: &Loc,
-    wanted: WantedValue,
+    wanted: SoughtValue,
     any: bool,
 ) -> bool
     ensures { result ≡ over any (wanted_value (scene_seen scene.now) wanted)

@@ -15,7 +15,7 @@ ghost use Rattle.rc_menu.specs.Menu.{extended};
 ghost use Rattle.rc_value.specs.Scene.{scene_seen};
 
 use crate::asks::{
-    Asks, CardAsk, Parts, are_sought, has_value, joined_answer, joined_met, parts_of, sole_value,
+    Asks, Parts, SoughtCard, are_sought, has_value, joined_answer, joined_met, parts_of, sole_value,
 };
 use crate::parts::known_parts;
 use rc_ast::Test;
@@ -165,7 +165,7 @@ fn offer_asked(
     scene: &Scene,
     scope: &Bindings,
     cards: &Collection,
-    asks: &[CardAsk],
+    asks: &[SoughtCard],
     any: bool,
     item: &Item,
     menu: &mut Items,
@@ -191,7 +191,7 @@ fn offer_some(
     scene: &Scene,
     scope: &Bindings,
     cards: &Collection,
-    asks: &[CardAsk],
+    asks: &[SoughtCard],
     any: bool,
     item: &Item,
     menu: &mut Items,
@@ -213,7 +213,7 @@ fn offer_some(
 }
 
 // Offers those of the cards with these ids that have the values that are asked for. One value is asked for most often.
-fn offer_met(asks: &[CardAsk], any: bool, ids: &[u16], item: &Item, menu: &mut Items)
+fn offer_met(asks: &[SoughtCard], any: bool, ids: &[u16], item: &Item, menu: &mut Items)
     requires few { length ids.now ≤ most_in_list }
     requires room { length item.now.spots.items < 4 }
     requires free { length menu.old.items < most_items }
@@ -248,7 +248,7 @@ fn offer_having(row: &[Option<u16>], value: u16, ids: &[u16], item: &Item, menu:
 
 // Offers those for which the answers say so.
 #[inline(never)]
-fn offer_joined(asks: &[CardAsk], any: bool, ids: &[u16], item: &Item, menu: &mut Items)
+fn offer_joined(asks: &[SoughtCard], any: bool, ids: &[u16], item: &Item, menu: &mut Items)
     requires few { length ids.now ≤ most_in_list }
     requires room { length item.now.spots.items < 4 }
     requires free { length menu.old.items < most_items }
@@ -292,7 +292,7 @@ pub(crate) fn offer_guarded<'t>(
 
 // Offers those of the cards with these ids for which a guard in parts holds, where values are all that it asks.
 #[inline(always)]
-fn offer_sought(parts: Parts, asks: &[CardAsk], ids: &[u16], item: &Item, menu: &mut Items)
+fn offer_sought(parts: Parts, asks: &[SoughtCard], ids: &[u16], item: &Item, menu: &mut Items)
     requires few { length ids.now ≤ most_in_list }
     requires room { length item.now.spots.items < 4 }
     requires free { length menu.old.items < most_items }

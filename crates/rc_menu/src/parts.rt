@@ -6,7 +6,7 @@ ghost use Rattle.rc_sheet_spec.specs.Sheet.{Test as PureTest, cards_in, has_valu
 ghost use Rattle.rc_play_spec.specs.Scene.{CardValue};
 ghost use Rattle.rc_play_spec.specs.Value.{test_value};
 ghost use Rattle.rc_ast.specs.Names.{loc_seen};
-ghost use Rattle.rc_code.specs.Guards.{in_sense, guard_meant, part_meant, condition_meant, card_test_meant, IsFixedGuard, IsFixedPart, IsFixedCondition, IsFixedCardTest};
+ghost use Rattle.rc_code.specs.Guards.{in_sense, guard_meant, part_meant, guard_test_meant, card_test_meant, IsFixedGuard, IsFixedPart, IsFixedGuardTest, IsFixedCardTest};
 ghost use Rattle.rc_menu.specs.Asks.{ask_value, asks_value, joined, one_suffices, parts_told, IsInParts, IsJoined};
 ghost use Rattle.rc_menu.specs.Known.{IsAtHand, IsTurned};
 ghost use Rattle.rc_value.specs.Scene.{scene_seen};
@@ -15,17 +15,17 @@ ghost use Rattle.rc_value.specs.Wanted.{IsWantedAt};
 use crate::asks::{Asks, Parts, ask_in};
 use crate::known::{AtHand, are_there, turned_if, turned_wanted};
 use rc_ast::Loc;
-use rc_code::{CardTest, Condition, Guard, GuardPart, Joint, Sense};
-use rc_value::{Bindings, Scene, WantedValue, attr_of_id, comparison_holds, top_id};
+use rc_code::{CardTest, Guard, GuardPart, GuardTest, Joint, Sense};
+use rc_value::{Bindings, Scene, SoughtValue, attr_of_id, comparison_holds, top_id};
 
 // The value that a card is to have.
 #[inline(always)]
-fn wanted_by(scene: &Scene, scope: &Bindings, card_test: &CardTest) -> WantedValue
+fn wanted_by(scene: &Scene, scope: &Bindings, card_test: &CardTest) -> SoughtValue
     requires { IsFixedCardTest card_test.now }
     ensures { (place : ℕ) → IsWantedAt (scene_seen scene.now) place (card_test_meant place card_test.now) result }
 {
     match card_test {
-        CardTest::Value { name, value } => WantedValue {
+        CardTest::Value { name, value } => SoughtValue {
             name: *name,
             value: Some(*value),
             equal: true,
@@ -34,7 +34,7 @@ fn wanted_by(scene: &Scene, scope: &Bindings, card_test: &CardTest) -> WantedVal
             name,
             against,
             other,
-        } => WantedValue {
+        } => SoughtValue {
             name: *name,
             value: attr_of_id(scene, top_id(scene, scope, against), *other),
             equal: true,
@@ -53,18 +53,18 @@ fn top_has(scene: &Scene, scope: &Bindings, at: &Loc, name: u16, value: u16) -> 
 
 // What is at hand of a condition.
 #[inline(always)]
-fn condition_at_hand(scene: &Scene, scope: &Bindings, condition: &Condition) -> AtHand
+fn guard_test_at_hand(scene: &Scene, scope: &Bindings, condition: &GuardTest) -> AtHand
     requires outside { scope.now ≡ [] }
-    requires fixed { IsFixedCondition condition.now }
-    ensures { IsAtHand (scene_seen scene.now) scope.now (condition_meant condition.now) result }
+    requires fixed { IsFixedGuardTest condition.now }
+    ensures { IsAtHand (scene_seen scene.now) scope.now (guard_test_meant condition.now) result }
 {
     match condition {
-        Condition::Known(comparison) => AtHand::Holds(comparison_holds(scene, scope, comparison)),
-        Condition::OfCard(card_test) => AtHand::OfCard(wanted_by(scene, scope, card_test)),
-        Condition::Top { at, name, value } => {
+        GuardTest::Known(comparison) => AtHand::Holds(comparison_holds(scene, scope, comparison)),
+        GuardTest::OfCard(card_test) => AtHand::OfCard(wanted_by(scene, scope, card_test)),
+        GuardTest::Top { at, name, value } => {
             AtHand::Holds(top_has(scene, scope, at, *name, *value))
         }
-        Condition::Among {
+        GuardTest::Among {
             any,
             among,
             bound: _,
@@ -96,7 +96,7 @@ fn part_at_hand(scene: &Scene, scope: &Bindings, part: &GuardPart) -> AtHand
     requires fixed { IsFixedPart part.now }
     ensures { IsAtHand (scene_seen scene.now) scope.now (part_meant part.now) result }
 {
-    let hand = condition_at_hand(scene, scope, &part.condition);
+    let hand = guard_test_at_hand(scene, scope, &part.condition);
     turned_if(is_opposite(part.sense), hand)
 }
 

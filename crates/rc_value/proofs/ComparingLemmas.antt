@@ -13,7 +13,7 @@ use Rattle.rc_code.specs.declared.atoms.Comparator.{Comparator}
 use Rattle.rc_code.specs.declared.atoms.Comparator.TheVariants.{Equal}
 use Rattle.rc_value.specs.declared.comparing.Own.{Own}
 use Rattle.rc_value.specs.declared.comparing.Own.TheVariants.{Number, Size}
-use Rattle.rc_value.specs.declared.comparing.Suited.{Suited}
+use Rattle.rc_value.specs.declared.comparing.SoughtNumber.{SoughtNumber}
 use Rattle.rc_value.specs.Comparing.{compare, held, suits, ArePaired, IsHisOwn, IsSameForAll, IsSuited}
 use Rattle.rc_value.specs.Over.{over}
 use Rattle.rc_value.proofs.OverLemmas.{over_alike}
@@ -37,7 +37,7 @@ size_own place loc his = λ s vars player count.
 module _ (s : PureScene CardValue) (vars : List (PureBind CardValue)) where
   -- two numbers, of which the first is his
   module _ (a b : IntExpr) (place : ℕ) (own : Own) (how : Comparator) (count : place ≡ length vars) where
-    pub paired_his : (w : Option Suited) → IsHisOwn place a own →
+    pub paired_his : (w : Option SoughtNumber) → IsHisOwn place a own →
         IfSome w (λ w. (w.own ≡ own) × (w.how ≡ how) × IsSameForAll s vars b w.against) → IfSome w (ArePaired s vars a how b)
     paired_his None his told = told
     paired_his (Some w) his told = λ player.
@@ -45,14 +45,14 @@ module _ (s : PureScene CardValue) (vars : List (PureBind CardValue)) where
         ∙ ap₂ (λ h o. compare h (held s o player) w.against) (sym told.1) (sym told.0)
 
   -- a test of them
-  pub suited_is : (t : Test) (a b : IntExpr) (how : Comparator) (w : Option Suited) →
+  pub suited_is : (t : Test) (a b : IntExpr) (how : Comparator) (w : Option SoughtNumber) →
       ((vars : List (PureBind CardValue)) → test_value s vars t ≡ compare how (int_value s vars a) (int_value s vars b)) →
       IfSome w (ArePaired s vars a how b) → IfSome w (IsSuited s vars t)
   suited_is t a b how None same told = told
   suited_is t a b how (Some w) same told = λ player. same (vars ++ player_bound player ∷ []) ∙ told player
 
   -- all of them, or one
-  pub over_players : (any : Bool) (t : Test) (w : Suited) (players : List ℕ) → IsSuited s vars t w →
+  pub over_players : (any : Bool) (t : Test) (w : SoughtNumber) (players : List ℕ) → IsSuited s vars t w →
       over any (suits s w) players ≡ over any (λ m. test_value s (vars ++ m ∷ []) t) (map (λ n. player_bound n) players)
   over_players any t w players is = over_alike any (suits s w) (λ m. test_value s (vars ++ m ∷ []) t) (λ n. player_bound n) players is
 

@@ -12,7 +12,7 @@ use Rattle.rc_play_spec.specs.Value.{attr_of_any, cut, worth, worth_of_any}
 use Rattle.rc_rules.specs.Lookup.{rows_seen, value_row}
 use Rattle.rc_rules.proofs.Rows.{in_row, row_below}
 use Rattle.rc_value.specs.declared.scene.Scene.{Scene}
-use Rattle.rc_value.specs.declared.wanted.WantedValue.{WantedValue}
+use Rattle.rc_value.specs.declared.wanted.SoughtValue.{SoughtValue}
 use Rattle.rc_value.specs.Over.{over}
 use Rattle.rc_value.specs.Scene.{scene_seen}
 use Rattle.rc_value.specs.Seen.{read_in}
@@ -76,19 +76,19 @@ row_value s name id row here =
     ap (λ r. slice_index_or r id None) (row_below (value_row faces) (length rows) name row there)
     ∙ in_row (λ face. value_at face name) [] None refl faces id
 
-pub met_in_row : (s : Scene) (w : WantedValue) (c : CardValue) (row : List (Option ℕ)) → Some row ≡ slice_get (rows_seen s.lookup.now.values.items) w.name →
+pub met_in_row : (s : Scene) (w : SoughtValue) (c : CardValue) (row : List (Option ℕ)) → Some row ≡ slice_get (rows_seen s.lookup.now.values.items) w.name →
     meets w (slice_index_or row (id_of c) None) ≡ wanted_value (scene_seen s) w c
 unfolding scene_seen
 met_in_row s w c row here = ap (meets w) (row_value s w.name (id_of c) row here)
 
-pub over_met : (any : Bool) (s : Scene) (w : WantedValue) (row : List (Option ℕ)) (ids : List ℕ) (cards : List CardValue) →
+pub over_met : (any : Bool) (s : Scene) (w : SoughtValue) (row : List (Option ℕ)) (ids : List ℕ) (cards : List CardValue) →
     Some row ≡ slice_get (rows_seen s.lookup.now.values.items) w.name → ids ≡ map id_of cards →
     over any (λ id. meets w (slice_index_or row id None)) ids ≡ over any (wanted_value (scene_seen s) w) cards
 over_met any s w row ids cards here are =
     ap (over any (λ id. meets w (slice_index_or row id None))) are ∙ over-map any (λ id. meets w (slice_index_or row id None)) id_of cards
     ∙ ap (λ f. over any f cards) (fun_ext (λ c. met_in_row s w c row here))
 
-pub count_met : (s : Scene) (w : WantedValue) (row : List (Option ℕ)) (ids : List ℕ) (cards : List CardValue) →
+pub count_met : (s : Scene) (w : SoughtValue) (row : List (Option ℕ)) (ids : List ℕ) (cards : List CardValue) →
     Some row ≡ slice_get (rows_seen s.lookup.now.values.items) w.name → ids ≡ map id_of cards →
     length (filter (λ id. meets w (slice_index_or row id None)) ids) ≡ length (filter (wanted_value (scene_seen s) w) cards)
 count_met s w row ids cards here are =

@@ -10,7 +10,7 @@ use Rattle.rc_play_spec.specs.Scene.{CardValue}
 use Rattle.rc_play_spec.specs.Value.{Scene as PureScene, Bind as PureBind, card_bound, player_bound, both, nat_same, card_of, attr_of_any, cards_there, cut, last_of, card_value, coll_value, test_value}
 use Rattle.rc_flow.specs.Reads.{reads_card}
 use Rattle.rc_flow.proofs.Unread.{unread_card}
-use Rattle.rc_value.specs.declared.wanted.WantedValue.{WantedValue}
+use Rattle.rc_value.specs.declared.wanted.SoughtValue.{SoughtValue}
 use Rattle.rc_value.specs.Over.{over}
 use Rattle.rc_value.specs.Wanted.{wanted_value, IsFixed, IsFixedCollection, IsFixedOwner, IsWanted, IsWantedAt}
 use Rattle.rc_value.specs.Sought.{has_face}
@@ -112,12 +112,12 @@ module _ (s : PureScene CardValue) (vars : List (PureBind CardValue)) where
 
 -- the same in all scopes of so many variables
 module _ (s : PureScene CardValue) (place : ℕ) where
-  abbrev some_or : WantedValue → Option WantedValue → WantedValue
+  abbrev some_or : SoughtValue → Option SoughtValue → SoughtValue
   some_or d None = d
   some_or d (Some x) = x
 
   -- by a card that is the same whatever variables stand for
-  pub wanted_fixed : (here : List (PureBind CardValue)) (t : Test) (a b : CardExpr) (name other : ℕ) (value : Option (Option ℕ)) (w : Option WantedValue) → t ≡ eq_attr a name b other →
+  pub wanted_fixed : (here : List (PureBind CardValue)) (t : Test) (a b : CardExpr) (name other : ℕ) (value : Option (Option ℕ)) (w : Option SoughtValue) → t ≡ eq_attr a name b other →
       a ≡ card_var place → IsFixed b → IfSome value (λ v. v ≡ attr_of_any s other (card_value s here b)) →
       w ≡ option_map (λ v. record { name = name; value = v; equal = true }) value → IfSome w (IsWantedAt s place t)
   wanted_fixed here t a b name other None None is variable fixed h e = h
@@ -130,7 +130,7 @@ module _ (s : PureScene CardValue) (place : ℕ) where
       ∙ ap (λ o. wanted_value s (some_or w o) c) (sym e)
 
   -- by a value that the sheet names
-  pub wanted_named : (t : Test) (a : CardExpr) (name value : ℕ) (w : Option WantedValue) → t ≡ has_value a name value → a ≡ card_var place →
+  pub wanted_named : (t : Test) (a : CardExpr) (name value : ℕ) (w : Option SoughtValue) → t ≡ has_value a name value → a ≡ card_var place →
       w ≡ Some (record { name = name; value = Some value; equal = true }) → IfSome w (IsWantedAt s place t)
   wanted_named t a name value w is variable e =
       subst (λ w. IfSome w (IsWantedAt s place t)) (sym e) (λ vars count. value_is s vars t a name value is (variable ∙ ap card_var (sym count)))

@@ -9,7 +9,7 @@ use Rattle.rc_code.specs.declared.atoms.Comparator.{Comparator}
 use Rattle.rc_code.specs.declared.atoms.Comparator.TheVariants.{Equal, Less, AtMost, More, AtLeast}
 use Rattle.rc_value.specs.declared.comparing.Own.{Own}
 use Rattle.rc_value.specs.declared.comparing.Own.TheVariants.{Number, Size}
-use Rattle.rc_value.specs.declared.comparing.Suited.{Suited}
+use Rattle.rc_value.specs.declared.comparing.SoughtNumber.{SoughtNumber}
 
 -- whether a number compares so with another
 abbrev pub compare : Comparator → ℤ → ℤ → Bool
@@ -45,7 +45,7 @@ held s (Number name) player = number_held s name player
 held s (Size name) player = pos (size_held s name player)
 
 -- whether it compares as it is to
-abbrev pub suits : PureScene CardValue → Suited → ℕ → Bool
+abbrev pub suits : PureScene CardValue → SoughtNumber → ℕ → Bool
 suits s w player = compare w.how (held s w.own player) w.against
 
 -- a number that is what the player has that the innermost variable stands for, inside so many others
@@ -54,18 +54,24 @@ IsHisOwn place e own =
     (s : PureScene CardValue) (vars : List (PureBind CardValue)) (player : ℕ) → length vars ≡ place →
     int_value s (vars ++ player_bound player ∷ []) e ≡ held s own player
 
+-- a test that compares one number so with another
+abbrev pub IsComparison : IntExpr → Comparator → IntExpr → Test → Type 0
+IsComparison a how b t =
+    (s : PureScene CardValue) (vars : List (PureBind CardValue)) →
+    test_value s vars t ≡ compare how (int_value s vars a) (int_value s vars b)
+
 -- a number that is the same whatever the innermost variable stands for
 abbrev pub IsSameForAll : PureScene CardValue → List (PureBind CardValue) → IntExpr → ℤ → Type 0
 IsSameForAll s vars e n = (m : PureBind CardValue) → int_value s (vars ++ m ∷ []) e ≡ n
 
 -- two numbers, which compare so where his number is as it is to be
 abbrev pub ArePaired : PureScene CardValue → List (PureBind CardValue) → IntExpr → Comparator →
-    IntExpr → Suited → Type 0
+    IntExpr → SoughtNumber → Type 0
 ArePaired s vars a how b w =
     (player : ℕ) →
     compare how (int_value s (vars ++ player_bound player ∷ []) a)
     (int_value s (vars ++ player_bound player ∷ []) b) ≡ suits s w player
 
 -- a test that asks this of him
-abbrev pub IsSuited : PureScene CardValue → List (PureBind CardValue) → Test → Suited → Type 0
+abbrev pub IsSuited : PureScene CardValue → List (PureBind CardValue) → Test → SoughtNumber → Type 0
 IsSuited s vars t w = (player : ℕ) → test_value s (vars ++ player_bound player ∷ []) t ≡ suits s w player

@@ -1,11 +1,13 @@
 -- What is read once for all cards that a variable runs over: it is the same whatever the variable stands for.
 use Rattle.std.specs.Prelude.{◌≡◌, ℕ, ◌++◌, ◌∷◌, [], true, List, length, Option, option_map}
-use Rattle.rc_sheet_spec.specs.Sheet.{Who, CardExpr, CollExpr}
+use Rattle.rc_sheet_spec.specs.Sheet.{Who, CardExpr, CollExpr, IntExpr, Test}
 use Rattle.rc_play_spec.specs.Ends.{last_of}
 use Rattle.rc_play_spec.specs.Scene.{CardValue}
 use Rattle.rc_play_spec.specs.Value.{Scene as PureScene, Bind as PureBind, Known, who_value, attr_of_any, card_value}
-use Rattle.rc_play_spec.specs.Value.{coll_value}
+use Rattle.rc_play_spec.specs.Value.{card_bound, coll_value, int_value, test_value, worth}
+use Rattle.rc_code.specs.declared.atoms.Comparator.{Comparator}
 use Rattle.rc_value.specs.Cards.{value_seen}
+use Rattle.rc_value.specs.Comparing.{compare}
 use Rattle.rc_value.specs.declared.cards.Card.{Card}
 use Rattle.rc_value.specs.declared.sought.Sought.{Sought}
 use Rattle.rc_value.specs.declared.sought.Sought.TheVariants.{Value, Face}
@@ -22,6 +24,13 @@ IsCardOnce s vars e card = (m : PureBind CardValue) → option_map value_seen ca
 abbrev pub IsTopOnce : PureScene CardValue → List (PureBind CardValue) → CollExpr → Option Card → Type 0
 IsTopOnce s vars cards card =
     (m : PureBind CardValue) → option_map value_seen card ≡ last_of (coll_value s (vars ++ m ∷ []) cards)
+
+-- a test that compares what the card of the variable at a place is worth so with a number
+abbrev pub IsWorthCompared : ℕ → Test → ℕ → Comparator → IntExpr → Type 0
+IsWorthCompared place t map how other =
+    (s : PureScene CardValue) (vars : List (PureBind CardValue)) (c : CardValue) → length vars ≡ place →
+    test_value s (vars ++ card_bound c ∷ []) t
+    ≡ compare how (worth s map c) (int_value s (vars ++ card_bound c ∷ []) other)
 
 -- to have a card's value, or its face
 abbrev pub valued : PureScene CardValue → ℕ → ℕ → Option Card → Sought

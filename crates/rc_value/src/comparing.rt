@@ -9,13 +9,16 @@ ghost use Rattle.rc_play_spec.specs.Value.{test_value};
 ghost use Rattle.rc_ast.specs.Names.{num_seen};
 ghost use Rattle.rc_ast.specs.Expressions.{coll_seen, int_seen, test_seen};
 ghost use Rattle.rc_value.specs.Comparing.{compare, held, number_held, size_held, suits, turned};
-ghost use Rattle.rc_value.specs.Comparing.{ArePaired, IsHisOwn, IsSameForAll, IsSuited};
+ghost use Rattle.rc_value.specs.Comparing.{ArePaired, IsComparison, IsHisOwn, IsSameForAll, IsSuited};
 ghost use Rattle.rc_value.specs.declared.comparing.Own.TheVariants.{Size};
 ghost use Rattle.rc_value.specs.Over.{over};
 ghost use Rattle.rc_value.specs.Scene.{scene_seen};
 
-use crate::leaves::number_of;
-use crate::once::is_outer_owner;
+use crate::arithmetic::{clamped_difference, clamped_product, clamped_sum};
+use crate::cards::id_or_none;
+use crate::leaves::{number_of, worth_of_id};
+use crate::once::{card_once, is_outer_owner};
+use crate::rows::ids_of;
 use crate::scene::Scene;
 use crate::scope::Bindings;
 use rc_ast::{Class, CollExpr, IntExpr, Num, Test, Who};
@@ -30,7 +33,7 @@ pub(crate) enum Own {
 
 /// How what a player has is to compare with a number that is the same for all players.
 #[derive(Clone, Copy)]
-pub(crate) struct Suited {
+pub(crate) struct SoughtNumber {
     pub(crate) own: Own,
     pub(crate) how: Comparator,
     pub(crate) against: i64,
@@ -38,7 +41,7 @@ pub(crate) struct Suited {
 
 /// What a test asks of the player that the innermost variable is to stand for, if it is such a comparison.
 #[inline(always)]
-pub(crate) fn suited_of(scene: &Scene, scope: &Bindings, test: &Test) -> Option<Suited>
+pub(crate) fn suited_of(scene: &Scene, scope: &Bindings, test: &Test) -> Option<SoughtNumber>
     ensures { IfSome result (IsSuited (scene_seen scene.now) scope.now (test_seen test.now)) }
 {
     match test {
@@ -51,6 +54,21 @@ pub(crate) fn suited_of(scene: &Scene, scope: &Bindings, test: &Test) -> Option<
     }
 }
 
+/// The two numbers that a test compares, and how.
+#[inline(always)]
+pub(crate) fn numbers_of<'t>(test: &'t Test) -> Option<(&'t IntExpr, Comparator, &'t IntExpr)>
+    ensures { IfSome result (λ it. IsComparison (int_seen it.0.now) it.1 (int_seen it.2.now) (test_seen test.now)) }
+{
+    match test {
+        Test::EqInt(a, b) => Some((a, Comparator::Equal, b)),
+        Test::Less(a, b) => Some((a, Comparator::Less, b)),
+        Test::LessEq(a, b) => Some((a, Comparator::AtMost, b)),
+        Test::More(a, b) => Some((a, Comparator::More, b)),
+        Test::MoreEq(a, b) => Some((a, Comparator::AtLeast, b)),
+        _ => None,
+    }
+}
+
 // The same of two numbers, of which either may be his.
 #[inline(always)]
 fn comparison_of(
@@ -59,7 +77,7 @@ fn comparison_of(
     a: &IntExpr,
     how: Comparator,
     b: &IntExpr,
-) -> Option<Suited>
+) -> Option<SoughtNumber>
     ensures { IfSome result (ArePaired (scene_seen scene.now) scope.now (int_seen a.now) how (int_seen b.now)) }
 {
     match his_own(a, scope.len()) {
@@ -71,9 +89,9 @@ fn comparison_of(
     }
 }
 
-// The same comparison, told of the other number.
+/// The same comparison, told of the other number.
 #[inline(always)]
-fn turn_comparison(how: Comparator) -> Comparator
+pub(crate) fn turn_comparison(how: Comparator) -> Comparator
     ensures { result ≡ turned how }
 {
     match how {
@@ -93,12 +111,12 @@ fn against(
     own: Own,
     how: Comparator,
     other: &IntExpr,
-) -> Option<Suited>
+) -> Option<SoughtNumber>
     ensures { IfSome result (λ s. (s.own ≡ own) × (s.how ≡ how)
         × IsSameForAll (scene_seen scene.now) scope.now (int_seen other.now) s.against) }
 {
     match same_for_all(scene, scope, other) {
-        Some(against) => Some(Suited { own, how, against }),
+        Some(against) => Some(SoughtNumber { own, how, against }),
         None => None,
     }
 }
@@ -155,10 +173,43 @@ fn same_for_all(scene: &Scene, scope: &Bindings, expr: &IntExpr) -> Option<i64>
     }
 }
 
+/// The same, or how many cards a location has, what a card is worth, or what is made of two such numbers.
+#[cycle(made)]
+#[inline(never)]
+pub(crate) fn made_for_all(scene: &Scene, scope: &Bindings, expr: &IntExpr) -> Option<i64>
+    ensures { IfSome result (IsSameForAll (scene_seen scene.now) scope.now (int_seen expr.now)) }
+{
+    match expr {
+        IntExpr::Size(cards) => match &**cards {
+            CollExpr::Loc(loc) if is_outer_owner(loc.who, scope.len()) => {
+                Some(ids_of(scene, scope, loc).len() as i64)
+            }
+            _ => None,
+        },
+        IntExpr::Points(card, map) => {
+            let card = card_once(scene, scope, card)?;
+            Some(worth_of_id(scene, id_or_none(card), *map))
+        }
+        IntExpr::Add(a, b) => {
+            let one = made_for_all(scene, scope, a)?;
+            Some(clamped_sum(one, made_for_all(scene, scope, b)?))
+        }
+        IntExpr::Sub(a, b) => {
+            let one = made_for_all(scene, scope, a)?;
+            Some(clamped_difference(one, made_for_all(scene, scope, b)?))
+        }
+        IntExpr::Mul(a, b) => {
+            let one = made_for_all(scene, scope, a)?;
+            Some(clamped_product(one, made_for_all(scene, scope, b)?))
+        }
+        _ => same_for_all(scene, scope, expr),
+    }
+}
+
 /// Whether one of the players has what is asked, or all of them. How many cards each has is asked most, and so in a
 /// loop of its own.
 #[inline(always)]
-pub(crate) fn over_suited(scene: &Scene, suited: Suited, any: bool) -> bool
+pub(crate) fn over_suited(scene: &Scene, suited: SoughtNumber, any: bool) -> bool
     ensures { result ≡ over any (suits (scene_seen scene.now) suited)
         (below (scene_seen scene.now).known.sheet.players) }
 {
@@ -179,15 +230,15 @@ fn over_sized(scene: &Scene, name: u16, how: Comparator, against: i64, any: bool
     match how {
         Comparator::Equal => {
             let how = Comparator::Equal;
-            over_each(scene, Suited { own, how, against }, any)
+            over_each(scene, SoughtNumber { own, how, against }, any)
         }
-        _ => over_each(scene, Suited { own, how, against }, any),
+        _ => over_each(scene, SoughtNumber { own, how, against }, any),
     }
 }
 
 // The same, player by player.
 #[inline(always)]
-fn over_each(scene: &Scene, suited: Suited, any: bool) -> bool
+fn over_each(scene: &Scene, suited: SoughtNumber, any: bool) -> bool
     ensures { result ≡ over any (suits (scene_seen scene.now) suited)
         (below (scene_seen scene.now).known.sheet.players) }
 {
@@ -200,7 +251,7 @@ fn over_each(scene: &Scene, suited: Suited, any: bool) -> bool
 }
 
 #[inline(always)]
-fn does_suit(scene: &Scene, suited: Suited, player: u8) -> bool
+fn does_suit(scene: &Scene, suited: SoughtNumber, player: u8) -> bool
     ensures { result ≡ suits (scene_seen scene.now) suited player }
 {
     compare(
@@ -253,7 +304,7 @@ pub fn each_has(scene: &Scene, name: u16, count: i64) -> bool
         (all_of each_player bound (eq_int (size_expr (cards_in (record { who = who_var 0; name = name; at = at })))
         (literal count))) }
 {
-    let suited = Suited {
+    let suited = SoughtNumber {
         own: Own::Size(name),
         how: Comparator::Equal,
         against: count,

@@ -63,6 +63,7 @@ pub use held::held_among;
 pub use leaves::{attr_of_id, cards_of, value_in};
 pub use lookup::{loc_at, num_at, who_of};
 pub use members::{Member, bare_bind_at, bind_of, member_at};
+pub use once::worth_once;
 pub use peeking::joined_marks;
 pub use reading::{card_now, cards_now, int_now, loc_now, num_now, test_now, who_now};
 pub use rows::{ids_of, top_id};
@@ -70,9 +71,9 @@ pub use scene::Scene;
 pub use scope::{Bind, Bindings};
 pub use scoring::{code_has_ended, has_ended, scores_now};
 pub use shuffles::places;
-pub use sought::{Sought, are_as_sought};
+pub use sought::{Sought, SoughtWorth, are_as_sought, is_worth};
 pub use starting::{about_of, site_of};
 pub use tests::{sought_of, test_of};
 pub use wanted::{
-    WantedValue, are_met_in, equal_at, is_fixed_collection, is_fixed_owner, is_so, wanted_at,
+    SoughtValue, are_met_in, equal_at, is_fixed_collection, is_fixed_owner, is_so, wanted_at,
 };

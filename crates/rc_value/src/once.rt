@@ -2,19 +2,23 @@
 //! reads is read once for all of them, with no list and with no other test.
 ghost use Rattle.std.specs.Prelude.{◌≡◌, true, IfSome, option_map};
 ghost use Rattle.rc_ast.specs.Names.{who_seen};
-ghost use Rattle.rc_ast.specs.Expressions.{card_seen, coll_seen, test_seen};
-ghost use Rattle.rc_value.specs.Once.{IsCardOnce, IsTopOnce, IsOuterOwner, alike, valued};
+ghost use Rattle.rc_sheet_spec.specs.Sheet.{card_var, worth_of};
+ghost use Rattle.rc_ast.specs.Expressions.{card_seen, coll_seen, int_seen, test_seen};
+ghost use Rattle.rc_value.specs.Once.{IsCardOnce, IsTopOnce, IsOuterOwner, IsWorthCompared, alike, valued};
 ghost use Rattle.rc_value.specs.Scene.{scene_seen};
 ghost use Rattle.rc_value.specs.Sought.{IsSought};
+ghost use Rattle.rc_value.specs.declared.sought.Sought.TheVariants.{Worth};
 
 use crate::Card;
+use crate::comparing::{made_for_all, numbers_of, turn_comparison};
 use crate::leaves::attr_of;
 use crate::rows::top_card;
 use crate::scene::Scene;
 use crate::scope::Bindings;
-use crate::sought::{Sought, opposite, same_face, same_value};
+use crate::sought::{Sought, SoughtWorth, opposite, same_face, same_value};
 use crate::wanted::is_variable;
-use rc_ast::{CardExpr, CollExpr, Test, Who};
+use rc_ast::{CardExpr, CollExpr, IntExpr, Test, Who};
+use rc_code::Comparator;
 
 /// Whether an owner is no variable but one of so many outer ones.
 #[inline(always)]
@@ -53,9 +57,9 @@ fn top_once(scene: &Scene, scope: &Bindings, expr: &CollExpr) -> Option<Option<C
     }
 }
 
-// The card of an outer variable, or at the top of such cards; there may be none. Whatever one more variable stands for.
+/// The card of an outer variable, or at the top of such cards; there may be none. Whatever one more variable stands for.
 #[inline(always)]
-fn card_once(scene: &Scene, scope: &Bindings, expr: &CardExpr) -> Option<Option<Card>>
+pub(crate) fn card_once(scene: &Scene, scope: &Bindings, expr: &CardExpr) -> Option<Option<Card>>
     ensures { IfSome result (IsCardOnce (scene_seen scene.now) scope.now (card_seen expr.now)) }
 {
     match expr {
@@ -123,6 +127,46 @@ fn equal_once(scene: &Scene, scope: &Bindings, test: &Test) -> Option<Sought>
             None
         }
         _ => None,
+    }
+}
+
+// The map by which a number is what the card of the variable at a place is worth.
+#[inline(always)]
+fn map_of(expr: &IntExpr, place: usize) -> Option<u16>
+    ensures { IfSome result (λ map. int_seen expr.now ≡ worth_of (card_var place) map) }
+{
+    match expr {
+        IntExpr::Points(card, map) if is_variable(card, place) => Some(*map),
+        _ => None,
+    }
+}
+
+// What a test compares with what the card of the variable at a place is worth: by which map, how, and with what.
+#[inline(always)]
+fn worth_compared<'t>(test: &'t Test, place: usize) -> Option<(u16, Comparator, &'t IntExpr)>
+    ensures { IfSome result (λ it. IsWorthCompared place (test_seen test.now) it.0 it.1 (int_seen it.2.now)) }
+{
+    let (a, how, b) = numbers_of(test)?;
+    match map_of(a, place) {
+        Some(map) => Some((map, how, b)),
+        None => Some((map_of(b, place)?, turn_comparison(how), a)),
+    }
+}
+
+/// What a comparison asks of what the innermost variable's card is worth, where the other number is the same for all.
+#[inline(never)]
+pub fn worth_once(scene: &Scene, scope: &Bindings, test: &Test) -> Option<SoughtWorth>
+    ensures { IfSome result (λ worth. IsSought (scene_seen scene.now) scope.now (test_seen test.now) (Worth worth)) }
+{
+    let (map, how, other) = worth_compared(test, scope.len())?;
+    match i32::try_from(made_for_all(scene, scope, other)?) {
+        Ok(against) => Some(SoughtWorth {
+            map,
+            how,
+            against,
+            equal: true,
+        }),
+        Err(_) => None,
     }
 }
 

@@ -5,33 +5,55 @@ ghost use Rattle.rc_play_spec.specs.Value.{cut};
 ghost use Rattle.rc_value.specs.Cards.{value_seen, values_seen};
 ghost use Rattle.rc_value.specs.Over.{over};
 ghost use Rattle.rc_value.specs.Scene.{scene_seen};
-ghost use Rattle.rc_value.specs.Sought.{face_value, reversed, sought_value};
+ghost use Rattle.rc_value.specs.Sought.{face_value, reversed, sought_value, worth_value};
 ghost use Rattle.rc_value.specs.declared.sought.Sought.TheVariants.{Value, Face};
 
 use crate::collection::Collection;
-use crate::leaves::are_same;
+use crate::comparing::compare;
+use crate::leaves::{are_same, worth_of};
 use crate::loops::push_if;
 use crate::scene::Scene;
-use crate::wanted::{WantedValue, are_met_in, count_if, count_met_in, is_as_wanted};
+use crate::wanted::{SoughtValue, are_met_in, count_if, count_met_in, is_as_wanted};
 use crate::{Card, Cards};
+use rc_code::Comparator;
 
 /// A card whose face others are to have, or not to have. Where there is none, no card has its face.
 #[derive(Clone, Copy)]
-pub struct Likeness {
+pub struct SoughtFace {
     pub card: Option<Card>,
+    pub equal: bool,
+}
+
+/// How what a card is worth by a point map is to compare with a number, or is not to.
+#[derive(Clone, Copy)]
+pub struct SoughtWorth {
+    pub map: u16,
+    pub how: Comparator,
+    pub against: i32,
     pub equal: bool,
 }
 
 /// What a test asks of a card, where all else that it reads is the same for each card.
 #[derive(Clone, Copy)]
 pub enum Sought {
-    Value(WantedValue),
-    Face(Likeness),
+    Value(SoughtValue),
+    Face(SoughtFace),
+    Worth(SoughtWorth),
+}
+
+/// Whether what a card is worth is so.
+#[inline(always)]
+pub fn is_worth(scene: &Scene, sought: SoughtWorth, card: Card) -> bool
+    ensures { result ≡ worth_value (scene_seen scene.now) sought (value_seen card) }
+{
+    let worth = worth_of(scene, card, sought.map);
+    let is = compare(sought.how, worth, sought.against as i64);
+    if sought.equal { is } else { !is }
 }
 
 // Whether a card's face is so.
 #[inline(always)]
-fn is_like(scene: &Scene, likeness: Likeness, card: Card) -> bool
+fn is_like(scene: &Scene, likeness: SoughtFace, card: Card) -> bool
     ensures { result ≡ face_value (scene_seen scene.now) likeness (value_seen card) }
 {
     let same = are_same(scene, Some(card), likeness.card);
@@ -46,6 +68,7 @@ fn is_as_sought(scene: &Scene, sought: Sought, card: Card) -> bool
     match sought {
         Sought::Value(wanted) => is_as_wanted(scene, wanted, card),
         Sought::Face(likeness) => is_like(scene, likeness, card),
+        Sought::Worth(worth) => is_worth(scene, worth, card),
     }
 }
 
@@ -54,7 +77,7 @@ fn is_as_sought(scene: &Scene, sought: Sought, card: Card) -> bool
 pub(crate) fn same_value(name: u16, value: Option<u16>) -> Sought
     ensures { result ≡ Value (record { name = name; value = value; equal = true }) }
 {
-    Sought::Value(WantedValue {
+    Sought::Value(SoughtValue {
         name,
         value,
         equal: true,
@@ -66,7 +89,7 @@ pub(crate) fn same_value(name: u16, value: Option<u16>) -> Sought
 pub(crate) fn same_face(card: Option<Card>) -> Sought
     ensures { result ≡ Face (record { card = card; equal = true }) }
 {
-    Sought::Face(Likeness { card, equal: true })
+    Sought::Face(SoughtFace { card, equal: true })
 }
 
 /// The opposite of what is sought.
@@ -75,14 +98,20 @@ pub(crate) fn opposite(sought: Option<Sought>) -> Option<Sought>
     ensures { result ≡ option_map reversed sought }
 {
     match sought {
-        Some(Sought::Value(wanted)) => Some(Sought::Value(WantedValue {
+        Some(Sought::Value(wanted)) => Some(Sought::Value(SoughtValue {
             name: wanted.name,
             value: wanted.value,
             equal: !wanted.equal,
         })),
-        Some(Sought::Face(likeness)) => Some(Sought::Face(Likeness {
+        Some(Sought::Face(likeness)) => Some(Sought::Face(SoughtFace {
             card: likeness.card,
             equal: !likeness.equal,
+        })),
+        Some(Sought::Worth(worth)) => Some(Sought::Worth(SoughtWorth {
+            map: worth.map,
+            how: worth.how,
+            against: worth.against,
+            equal: !worth.equal,
         })),
         None => None,
     }
@@ -143,8 +172,22 @@ fn count_one_by_one(scene: &Scene, sought: Sought, cards: &Collection) -> usize
     count
 }
 
-/// Puts the cards that are so behind others, as long as there is room.
+/// Puts the cards that are so behind others, as long as there is room. There is a loop for each kind.
 pub(crate) fn add_as_sought(scene: &Scene, sought: Sought, cards: &Collection, out: &mut Cards)
+    ensures cards { values_seen out.new.items
+        ≡ cut (values_seen out.old.items ++ filter (sought_value (scene_seen scene.now) sought) cards.now) }
+    ensures few { length out.new.items ≤ most_in_collection }
+{
+    match sought {
+        Sought::Value(wanted) => add_each(scene, Sought::Value(wanted), cards, out),
+        Sought::Face(likeness) => add_each(scene, Sought::Face(likeness), cards, out),
+        Sought::Worth(worth) => add_each(scene, Sought::Worth(worth), cards, out),
+    }
+}
+
+// The same, card by card.
+#[inline(always)]
+fn add_each(scene: &Scene, sought: Sought, cards: &Collection, out: &mut Cards)
     ensures cards { values_seen out.new.items
         ≡ cut (values_seen out.old.items ++ filter (sought_value (scene_seen scene.now) sought) cards.now) }
     ensures few { length out.new.items ≤ most_in_collection }

@@ -15,7 +15,7 @@ use crate::expressions::{card_of, coll_of, int_of, value_of};
 use crate::hand::{bare_members, test_at_hand};
 use crate::leaves::are_same;
 use crate::lookup::who_of;
-use crate::once::sought_once;
+use crate::once::{sought_once, worth_once};
 use crate::scene::Scene;
 use crate::scope::{Bind, Bindings};
 use crate::sought::{Sought, are_as_sought, opposite, same_face, same_value};
@@ -115,7 +115,7 @@ fn over_cards(scene: &Scene, scope: &Bindings, expr: &Test) -> bool
     }
 }
 
-/// What a test asks of the innermost variable's card: its value or its face, or an opposite of these. All else that the
+/// What a test asks of the innermost variable's card: its value, its face or its worth, or an opposite. All else that the
 /// test reads is read once for all cards.
 #[cycle(values)]
 pub fn sought_of(scene: &Scene, scope: &Bindings, test: &Test) -> Option<Sought>
@@ -158,7 +158,7 @@ fn sought_asked(scene: &Scene, scope: &Bindings, inside: &Bindings, test: &Test)
         }
         Test::Ne(inner) => opposite(sought_asked(scene, scope, inside, inner)),
         Test::Not(inner) => opposite(sought_asked(scene, scope, inside, inner)),
-        _ => None,
+        _ => Some(Sought::Worth(worth_once(&*scene, &*scope, test)?)),
     }
 }
 

@@ -22,7 +22,7 @@ use rc_flow::card_reads;
 
 /// A value for an attribute that a card is to have, or not to have.
 #[derive(Clone, Copy)]
-pub struct WantedValue {
+pub struct SoughtValue {
     pub name: u16,
     pub value: Option<u16>,
     pub equal: bool,
@@ -42,7 +42,7 @@ pub fn is_so(equal: bool, wanted: Option<u16>, value: Option<u16>) -> bool
 
 // Whether a value is as it is wanted.
 #[inline(always)]
-fn is_met(wanted: WantedValue, value: Option<u16>) -> bool
+fn is_met(wanted: SoughtValue, value: Option<u16>) -> bool
     ensures { result ≡ meets wanted value }
 {
     is_so(wanted.equal, wanted.value, value)
@@ -50,7 +50,7 @@ fn is_met(wanted: WantedValue, value: Option<u16>) -> bool
 
 /// Whether a card is as it is wanted.
 #[inline(always)]
-pub(crate) fn is_as_wanted(scene: &Scene, wanted: WantedValue, card: Card) -> bool
+pub(crate) fn is_as_wanted(scene: &Scene, wanted: SoughtValue, card: Card) -> bool
     ensures { result ≡ wanted_value (scene_seen scene.now) wanted (value_seen card) }
 {
     is_met(wanted, attr_of(scene, Some(card), wanted.name))
@@ -58,7 +58,7 @@ pub(crate) fn is_as_wanted(scene: &Scene, wanted: WantedValue, card: Card) -> bo
 
 /// Whether the card with this id is so, by the row of the attribute's values.
 #[inline(always)]
-pub(crate) fn is_met_in(row: &[Option<u16>], wanted: WantedValue, id: u16) -> bool
+pub(crate) fn is_met_in(row: &[Option<u16>], wanted: SoughtValue, id: u16) -> bool
     ensures { result ≡ meets wanted (slice_index_or row.now id None) }
 {
     is_met(wanted, value_in(row, id))
@@ -66,7 +66,7 @@ pub(crate) fn is_met_in(row: &[Option<u16>], wanted: WantedValue, id: u16) -> bo
 
 /// Whether one of the cards with these ids is so, or all of them, by the row of the attribute's values.
 #[inline(always)]
-pub fn are_met_in(row: &[Option<u16>], wanted: WantedValue, ids: &[u16], any: bool) -> bool
+pub fn are_met_in(row: &[Option<u16>], wanted: SoughtValue, ids: &[u16], any: bool) -> bool
     ensures { result ≡ over any (λ id. meets wanted (slice_index_or row.now id None)) ids.now }
 {
     for place in 0..ids.len() {
@@ -79,7 +79,7 @@ pub fn are_met_in(row: &[Option<u16>], wanted: WantedValue, ids: &[u16], any: bo
 
 // Whether the card with this id settles it: it is so, where one is enough, or isn't, where all are to be.
 #[inline(always)]
-fn settles(row: &[Option<u16>], wanted: WantedValue, id: u16, any: bool) -> bool
+fn settles(row: &[Option<u16>], wanted: SoughtValue, id: u16, any: bool) -> bool
     ensures { result ≡ beq (meets wanted (slice_index_or row.now id None)) any }
 {
     is_so(wanted.equal == any, wanted.value, value_in(row, id))
@@ -87,7 +87,7 @@ fn settles(row: &[Option<u16>], wanted: WantedValue, id: u16, any: bool) -> bool
 
 /// How many of the cards with these ids are so, by the row of the attribute's values.
 #[inline(always)]
-pub(crate) fn count_met_in(row: &[Option<u16>], wanted: WantedValue, ids: &[u16]) -> usize
+pub(crate) fn count_met_in(row: &[Option<u16>], wanted: SoughtValue, ids: &[u16]) -> usize
     requires few { length ids.now ≤ most_in_collection }
     ensures count { result ≡ length (filter (λ id. meets wanted (slice_index_or row.now id None)) ids.now) }
     ensures few { result ≤ most_in_list }
@@ -129,11 +129,11 @@ pub(crate) fn is_against(expr: &CardExpr, other: &CardExpr, place: usize) -> boo
 
 /// The opposite of what is wanted.
 #[inline(always)]
-pub(crate) fn opposite_of(wanted: Option<WantedValue>) -> Option<WantedValue>
+pub(crate) fn opposite_of(wanted: Option<SoughtValue>) -> Option<SoughtValue>
     ensures { result ≡ option_map turned wanted }
 {
     match wanted {
-        Some(wanted) => Some(WantedValue {
+        Some(wanted) => Some(SoughtValue {
             name: wanted.name,
             value: wanted.value,
             equal: !wanted.equal,
@@ -182,7 +182,7 @@ fn is_fixed(expr: &CardExpr) -> bool
 /// where that is at hand: a value that the sheet names, or that of the card at the top of a location that no variable
 /// owns.
 #[inline(always)]
-pub fn wanted_at(scene: &Scene, scope: &Bindings, place: usize, test: &Test) -> Option<WantedValue>
+pub fn wanted_at(scene: &Scene, scope: &Bindings, place: usize, test: &Test) -> Option<SoughtValue>
     ensures { IfSome result (IsWantedAt (scene_seen scene.now) place (test_seen test.now)) }
 {
     match test {
@@ -194,7 +194,7 @@ pub fn wanted_at(scene: &Scene, scope: &Bindings, place: usize, test: &Test) -> 
 
 /// The same, but for opposites.
 #[inline(always)]
-pub fn equal_at(scene: &Scene, scope: &Bindings, place: usize, test: &Test) -> Option<WantedValue>
+pub fn equal_at(scene: &Scene, scope: &Bindings, place: usize, test: &Test) -> Option<SoughtValue>
     ensures { IfSome result (IsWantedAt (scene_seen scene.now) place (test_seen test.now)) }
 {
     match test {
@@ -216,11 +216,11 @@ pub fn equal_at(scene: &Scene, scope: &Bindings, place: usize, test: &Test) -> O
 
 // The value that an attribute is to have, if it is known.
 #[inline(always)]
-fn equal_to(name: u16, value: Option<Option<u16>>) -> Option<WantedValue>
+fn equal_to(name: u16, value: Option<Option<u16>>) -> Option<SoughtValue>
     ensures { result ≡ option_map (λ v. record { name = name; value = v; equal = true }) value }
 {
     match value {
-        Some(value) => Some(WantedValue {
+        Some(value) => Some(SoughtValue {
             name,
             value,
             equal: true,

@@ -1,6 +1,6 @@
 use Rattle.std.proofs.Common.{◌++◌, map, take, ap, ◌∙◌}
 use Rattle.rc_rules.specs.Menu.{item_seen, menu_seen}
-use Rattle.rc_menu.specs.declared.asks.CardAsk.TheVariants.{Value}
+use Rattle.rc_menu.specs.declared.asks.SoughtCard.TheVariants.{Value}
 use Rattle.rc_menu.specs.Menu.{extended}
 use Rattle.rc_menu.proofs.RowOffers.{sole_offers}
 use Rattle.rc_menu.proofs.offering.offer_met.Goals as goal

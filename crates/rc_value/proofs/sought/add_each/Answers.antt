@@ -5,7 +5,7 @@ use Rattle.rc_value.specs.Cards.{value_seen, values_seen}
 use Rattle.rc_value.specs.Scene.{scene_seen}
 use Rattle.rc_value.specs.Sought.{sought_value}
 use Rattle.rc_value.proofs.Steps.{passing_on, passing_here, more_end}
-use Rattle.rc_value.proofs.sought.add_as_sought.Goals as goal
+use Rattle.rc_value.proofs.sought.add_each.Goals as goal
 
 pub loop-place-preserved : goal.loop-place-preserved
 loop-place-preserved c =

@@ -4,7 +4,7 @@ use Rattle.rc_play_spec.specs.Value.{cut}
 use Rattle.rc_value.specs.Cards.{values_seen}
 use Rattle.rc_value.specs.Scene.{scene_seen}
 use Rattle.rc_value.specs.Sought.{sought_value}
-use Rattle.rc_value.proofs.sought.add_as_sought.Given as goal
+use Rattle.rc_value.proofs.sought.add_each.Given as goal
 
 abbrev pub invariant-loop-place : goal.invariant-loop-place
 invariant-loop-place l = record {
