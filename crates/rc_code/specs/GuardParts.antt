@@ -58,19 +58,19 @@ in_some_sense is (ne t) = is t
 in_some_sense is (not_of t) = is t
 in_some_sense is t = is t
 
--- Whether one of the cards of such a location, or each of them, passes such a test or its opposite; whether the top one has a
--- value; or such a comparison.
-abbrev pub is_fixed_condition : Test → Bool
-is_fixed_condition (any_of domain bound t) = is_fixed_domain domain && in_some_sense (is_card_test 1) t
-is_fixed_condition (all_of domain bound t) = is_fixed_domain domain && in_some_sense (is_card_test 1) t
-is_fixed_condition (has_value card attr value) = is_fixed_top card
-is_fixed_condition t = is_fixed_comparison t
+-- Whether one of the cards of such a location, or each of them, passes such a test or its opposite; whether the top one
+-- has a value; or such a comparison.
+abbrev pub is_fixed_guard_test : Test → Bool
+is_fixed_guard_test (any_of domain bound t) = is_fixed_domain domain && in_some_sense (is_card_test 1) t
+is_fixed_guard_test (all_of domain bound t) = is_fixed_domain domain && in_some_sense (is_card_test 1) t
+is_fixed_guard_test (has_value card attr value) = is_fixed_top card
+is_fixed_guard_test t = is_fixed_comparison t
 
 -- such a one, or whether the offered card passes such a test
 abbrev pub is_guard_test : Test → Bool
-is_guard_test t = is_card_test 0 t || is_fixed_condition t
+is_guard_test t = is_card_test 0 t || is_fixed_guard_test t
 
--- conditions, or their opposites
+-- such ones, or their opposites
 abbrev pub are_parts : Tests → Bool
 are_parts no_test = true
 are_parts (test t tests) = in_some_sense is_guard_test t && are_parts tests

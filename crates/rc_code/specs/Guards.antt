@@ -42,7 +42,7 @@ guard_test_meant (Among any among bound sense card_test) =
     over_domain any (each_card (cards_in (loc_seen among))) bound (in_sense sense (card_test_meant 1 card_test))
 
 abbrev pub part_meant : GuardPart → Test
-part_meant part = in_sense part.sense (guard_test_meant part.condition)
+part_meant part = in_sense part.sense (guard_test_meant part.guard_test)
 
 -- Tests in one. A sole one stands for itself; where there are more of them, or none, all are to hold.
 abbrev pub joined_tests : Joint → List Test → Test
@@ -88,14 +88,14 @@ IsFixedGuardTest (Top at name value) = IsFixedLoc (loc_seen at)
 IsFixedGuardTest (Among any among bound sense card_test) = IsFixedLoc (loc_seen among) × IsFixedCardTest card_test
 
 abbrev pub IsFixedPart : GuardPart → Type 0
-IsFixedPart part = IsFixedGuardTest part.condition
+IsFixedPart part = IsFixedGuardTest part.guard_test
 
--- a test of a card, a condition and a part that stand for a test, and of which no variable owns any location
+-- a test of a card, a test of a guard and a part that stand for a test, and of which no variable owns any location
 abbrev pub IsCardTestOf : ℕ → Test → CardTest → Type 0
 IsCardTestOf place t card_test = (card_test_meant place card_test ≡ t) × IsFixedCardTest card_test
 
 abbrev pub IsGuardTestOf : Test → GuardTest → Type 0
-IsGuardTestOf t condition = (guard_test_meant condition ≡ t) × IsFixedGuardTest condition
+IsGuardTestOf t guard_test = (guard_test_meant guard_test ≡ t) × IsFixedGuardTest guard_test
 
 abbrev pub IsPartOf : Test → GuardPart → Type 0
 IsPartOf t part = (part_meant part ≡ t) × IsFixedPart part

@@ -5,7 +5,7 @@ ghost use Rattle.rc_ast.specs.Names.{loc_seen, who_seen};
 ghost use Rattle.rc_ast.specs.Expressions.{card_seen, coll_seen, domain_seen, test_seen, tests_seen};
 ghost use Rattle.rc_ast.specs.Items.{alt_seen};
 ghost use Rattle.rc_code.specs.Guards.{in_sense, over_domain, part_meant, joined_tests, guard_meant, IsFixedWho, IsFixedLoc, IsFixedAmount, IsFixedComparison, IsFixedPart, IsFixedGuard, IsGuardTestOf, IsPartOf, IsGuardOf, IsCardTestOf};
-ghost use Rattle.rc_code.specs.GuardParts.{is_fixed_who, is_fixed_location, is_fixed_top, is_fixed_domain, is_fixed_number, is_fixed_comparison, is_fixed_condition, is_the_variable, is_card_test, is_guard_test, in_some_sense, are_few_parts, is_in_parts, is_guarded, has_guard};
+ghost use Rattle.rc_code.specs.GuardParts.{is_fixed_who, is_fixed_location, is_fixed_top, is_fixed_domain, is_fixed_number, is_fixed_comparison, is_fixed_guard_test, is_the_variable, is_card_test, is_guard_test, in_some_sense, are_few_parts, is_in_parts, is_guarded, has_guard};
 ghost use Rattle.rc_code.specs.FlatMeaning.{amount_meant, comparison_meant};
 
 use crate::amounts::Amount;
@@ -13,7 +13,7 @@ use crate::atoms::{Comparison, comparison_of};
 use arrayvec::ArrayVec;
 use rc_ast::{Alt, CardExpr, CollExpr, Domain, Loc, Test, Who};
 
-/// Whether a condition is asked as it is, or its opposite, in either of the two ways in which a sheet says so.
+/// Whether a test is asked as it is, or its opposite, in either of the two ways in which a sheet says so.
 #[derive(Clone, Copy)]
 pub enum Sense {
     Plain,
@@ -29,7 +29,7 @@ pub enum CardTest {
     Against { name: u16, against: Loc, other: u16 },
 }
 
-/// A condition that is asked with no walk over a tree, where no variable owns any of its locations: a comparison;
+/// A test that is asked with no walk over a tree, where no variable owns any of its locations: a comparison;
 /// whether the innermost variable's card passes a test; whether the top card of a location has a value; or whether one
 /// of the cards of a location, or each of them, passes a test or its opposite. How the top card is asked stands apart
 /// from comparisons, which effects ask too, and which took longer with it.
@@ -55,14 +55,14 @@ pub enum GuardTest {
 #[derive(Clone, Copy)]
 pub struct GuardPart {
     pub sense: Sense,
-    pub condition: GuardTest,
+    pub guard_test: GuardTest,
 }
 
 impl Default for GuardPart {
     fn default() -> GuardPart {
         GuardPart {
             sense: Sense::Plain,
-            condition: GuardTest::OfCard(CardTest::Value { name: 0, value: 0 }),
+            guard_test: GuardTest::OfCard(CardTest::Value { name: 0, value: 0 }),
         }
     }
 }
@@ -257,7 +257,7 @@ fn top_of(card: &CardExpr, name: u16, value: u16) -> Option<GuardTest>
     }
 }
 
-// The condition that one of the cards of a location, or each, passes a test.
+// The test that one of the cards of a location, or each, passes a test.
 fn among_in_sense(
     any: bool,
     among: Loc,
@@ -307,10 +307,10 @@ fn among_of(any: bool, domain: &Domain, bound: u32, inner: &Test) -> Option<Guar
     }
 }
 
-// A condition of no variable's card.
-fn fixed_condition(test: &Test) -> Option<GuardTest>
+// A test of no variable's card.
+fn fixed_guard_test(test: &Test) -> Option<GuardTest>
     ensures meaning { IfSome result (IsGuardTestOf (test_seen test.now)) }
-    ensures found { is_some result ≡ is_fixed_condition (test_seen test.now) }
+    ensures found { is_some result ≡ is_fixed_guard_test (test_seen test.now) }
 {
     match test {
         Test::Any(domain, bound, inner) => among_of(true, domain, *bound, inner),
@@ -326,7 +326,7 @@ fn guard_test_of(test: &Test) -> Option<GuardTest>
 {
     match card_test_of(test, 0) {
         Some(card_test) => Some(GuardTest::OfCard(card_test)),
-        None => fixed_condition(test),
+        None => fixed_guard_test(test),
     }
 }
 
@@ -335,7 +335,7 @@ fn part_in_sense(sense: Sense, test: &Test) -> Option<GuardPart>
     ensures found { is_some result ≡ is_guard_test (test_seen test.now) }
 {
     match guard_test_of(test) {
-        Some(condition) => Some(GuardPart { sense, condition }),
+        Some(guard_test) => Some(GuardPart { sense, guard_test }),
         None => None,
     }
 }

@@ -67,12 +67,14 @@ module _ (s : PureScene CardValue) (vars : List (PureBind CardValue)) where
   pub all_fit_none : AllFit vars []
   all_fit_none = All-nil (λ ask. length vars + ask_depth ask ≤ 5)
 
-  pub all_fit_more : (asks : List SoughtCard) (ask : SoughtCard) → AllFit vars asks → length vars + ask_depth ask ≤ 5 → AllFit vars (asks ++ ask ∷ [])
+  pub all_fit_more : (asks : List SoughtCard) (ask : SoughtCard) → AllFit vars asks →
+      length vars + ask_depth ask ≤ 5 → AllFit vars (asks ++ ask ∷ [])
   all_fit_more asks ask h k =
       All-append (λ a. length vars + ask_depth a ≤ 5) asks (ask ∷ []) h (All-cons (λ a. length vars + ask_depth a ≤ 5) ask [] k all_fit_none)
 
   -- a test that is asked
-  pub joined_asked : (t : PureTest) (any : Bool) (old new : List SoughtCard) (ask : SoughtCard) → new ≡ old ++ ask ∷ [] →
+  pub joined_asked : (t : PureTest) (any : Bool) (old new : List SoughtCard) (ask : SoughtCard) →
+      new ≡ old ++ ask ∷ [] →
       ((c : CardValue) → told_of s vars t c ≡ ask_value s vars c ask) → IsJoined s vars t any false old new
   joined_asked t any old new ask grown is = λ c more.
       ap (λ b. joined any (map (ask_value s vars c) old ++ b ∷ more)) (is c)
@@ -122,19 +124,22 @@ module _ (s : PureScene CardValue) (vars : List (PureBind CardValue)) where
         sym (h c (tests_value s (vars ++ card_bound c ∷ []) (tests_seen (drop (i + 1) ts))))
         ∙ ap (λ bs. joined any (map (ask_value s vars c) old ++ bs)) (sym (values_here s (vars ++ card_bound c ∷ []) ts i t lt is)) ∙ told c
 
-    pub settle_on : (i : ℕ) (t : Test) (settled : Bool) (old new : List SoughtCard) → i < length ts → t ≡ get_or ts i t →
+    pub settle_on : (i : ℕ) (t : Test) (settled : Bool) (old new : List SoughtCard) → i < length ts →
+        t ≡ get_or ts i t →
         IsJoined s vars (test_seen t) any settled old new → ((c : CardValue) → left_after old i c ≡ whole_of c) → settled ≡ false →
         (c : CardValue) → left_after new (i + 1) c ≡ whole_of c
     settle_on i t settled old new lt is h told not' = λ c.
         ap (λ b. cond b any (left_after new (i + 1) c)) (sym not') ∙ settle_here i t settled old new lt is h told c
 
-    pub settle_stop : (i : ℕ) (t : Test) (settled : Bool) (old new : List SoughtCard) → i < length ts → t ≡ get_or ts i t →
+    pub settle_stop : (i : ℕ) (t : Test) (settled : Bool) (old new : List SoughtCard) → i < length ts →
+        t ≡ get_or ts i t →
         IsJoined s vars (test_seen t) any settled old new → ((c : CardValue) → left_after old i c ≡ whole_of c) → settled ≡ true →
         (c : CardValue) → whole_of c ≡ any
     settle_stop i t settled old new lt is h told yes' = λ c.
         sym (ap (λ b. cond b any (left_after new (i + 1) c)) (sym yes') ∙ settle_here i t settled old new lt is h told c)
 
-    pub settle_end : (i : ℕ) (asks : List SoughtCard) → length ts ≤ i → ((c : CardValue) → left_after asks i c ≡ whole_of c) →
+    pub settle_end : (i : ℕ) (asks : List SoughtCard) → length ts ≤ i → ((c : CardValue) →
+        left_after asks i c ≡ whole_of c) →
         (c : CardValue) → whole_of c ≡ joined any (map (ask_value s vars c) asks)
     settle_end i asks le told = λ c.
         sym (told c)

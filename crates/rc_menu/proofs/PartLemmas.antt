@@ -72,10 +72,11 @@ comparison_known s vars count comparison holds fixed is =
 
 -- what is read of a list of parts at a place that it hasn't
 abbrev pub no_part : GuardPart
-no_part = record { sense = Plain; condition = Known (Compare Equal (Literal (pos 0)) (Literal (pos 0))) }
+no_part = record { sense = Plain; guard_test = Known (Compare Equal (Literal (pos 0)) (Literal (pos 0))) }
 
 -- where values are all that is asked, and one more is
-pub sought_more : (asks : List SoughtCard) (ask : SoughtCard) → list_all asks_value asks ≡ true → asks_value ask ≡ true → list_all asks_value (asks ++ ask ∷ []) ≡ true
+pub sought_more : (asks : List SoughtCard) (ask : SoughtCard) → list_all asks_value asks ≡ true →
+    asks_value ask ≡ true → list_all asks_value (asks ++ ask ∷ []) ≡ true
 sought_more [] ask sought by_row = ap (λ b. b && true) by_row
 sought_more (Value value row ∷ asks) ask sought by_row = sought_more asks ask sought by_row
 sought_more (CardTest equal value row ∷ asks) ask sought by_row = sought_more asks ask sought by_row
@@ -91,26 +92,30 @@ module _ (s : PureScene CardValue) (vars : List (PureBind CardValue)) where
     abbrev pub whole_told : CardValue → Bool
     whole_told c = joined any (parts_told s vars parts c)
 
-    part_here : (i : ℕ) (part : GuardPart) (settled : Bool) (old new : List SoughtCard) → i < length parts → part ≡ get_or parts i part →
+    part_here : (i : ℕ) (part : GuardPart) (settled : Bool) (old new : List SoughtCard) → i < length parts →
+        part ≡ get_or parts i part →
         IsJoined s vars (part_meant part) any settled old new → ((c : CardValue) → left_told old i c ≡ whole_told c) →
         (c : CardValue) → cond settled any (left_told new (i + 1) c) ≡ whole_told c
     part_here i part settled old new lt is h told = λ c.
         sym (h c (parts_told s vars (drop (i + 1) parts) c))
         ∙ ap (λ ps. joined any (map (ask_value s vars c) old ++ parts_told s vars ps c)) (sym (drop_here parts i part lt is)) ∙ told c
 
-    pub part_on : (i : ℕ) (part : GuardPart) (settled : Bool) (old new : List SoughtCard) → i < length parts → part ≡ get_or parts i part →
+    pub part_on : (i : ℕ) (part : GuardPart) (settled : Bool) (old new : List SoughtCard) → i < length parts →
+        part ≡ get_or parts i part →
         IsJoined s vars (part_meant part) any settled old new → ((c : CardValue) → left_told old i c ≡ whole_told c) → settled ≡ false →
         (c : CardValue) → left_told new (i + 1) c ≡ whole_told c
     part_on i part settled old new lt is h told not' = λ c.
         ap (λ b. cond b any (left_told new (i + 1) c)) (sym not') ∙ part_here i part settled old new lt is h told c
 
-    pub part_stop : (i : ℕ) (part : GuardPart) (settled : Bool) (old new : List SoughtCard) → i < length parts → part ≡ get_or parts i part →
+    pub part_stop : (i : ℕ) (part : GuardPart) (settled : Bool) (old new : List SoughtCard) → i < length parts →
+        part ≡ get_or parts i part →
         IsJoined s vars (part_meant part) any settled old new → ((c : CardValue) → left_told old i c ≡ whole_told c) → settled ≡ true →
         (c : CardValue) → whole_told c ≡ any
     part_stop i part settled old new lt is h told yes' = λ c.
         sym (ap (λ b. cond b any (left_told new (i + 1) c)) (sym yes') ∙ part_here i part settled old new lt is h told c)
 
-    pub part_end : (i : ℕ) (asks : List SoughtCard) → length parts ≤ i → ((c : CardValue) → left_told asks i c ≡ whole_told c) →
+    pub part_end : (i : ℕ) (asks : List SoughtCard) → length parts ≤ i → ((c : CardValue) →
+        left_told asks i c ≡ whole_told c) →
         (c : CardValue) → whole_told c ≡ joined any (map (ask_value s vars c) asks)
     part_end i asks le told = λ c.
         sym (told c)

@@ -17,7 +17,8 @@ use Rattle.rc_menu.proofs.Offers.{each_mapped, offered_if, same_offers}
 
 -- where values are all that is asked, a card's id tells all
 module _ (s : PureScene CardValue) (vars : List (PureBind CardValue)) where
-  met_all : (c : CardValue) (asks : List SoughtCard) → list_all asks_value asks ≡ true → map (met_value (id_of c)) asks ≡ map (ask_value s vars c) asks
+  met_all : (c : CardValue) (asks : List SoughtCard) → list_all asks_value asks ≡ true →
+      map (met_value (id_of c)) asks ≡ map (ask_value s vars c) asks
   met_all c [] sought = refl
   met_all c (Value value row ∷ asks) sought = ap (λ bs. met_value (id_of c) (Value value row) ∷ bs) (met_all c asks sought)
   met_all c (CardTest equal value row ∷ asks) sought = ap (λ bs. met_value (id_of c) (CardTest equal value row) ∷ bs) (met_all c asks sought)

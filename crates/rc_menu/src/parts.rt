@@ -51,14 +51,14 @@ fn top_has(scene: &Scene, scope: &Bindings, at: &Loc, name: u16, value: u16) -> 
     attr_of_id(scene, top_id(scene, scope, at), name) == Some(value)
 }
 
-// What is at hand of a condition.
+// What is at hand of a test of a guard.
 #[inline(always)]
-fn guard_test_at_hand(scene: &Scene, scope: &Bindings, condition: &GuardTest) -> AtHand
+fn guard_test_at_hand(scene: &Scene, scope: &Bindings, guard_test: &GuardTest) -> AtHand
     requires outside { scope.now ≡ [] }
-    requires fixed { IsFixedGuardTest condition.now }
-    ensures { IsAtHand (scene_seen scene.now) scope.now (guard_test_meant condition.now) result }
+    requires fixed { IsFixedGuardTest guard_test.now }
+    ensures { IsAtHand (scene_seen scene.now) scope.now (guard_test_meant guard_test.now) result }
 {
-    match condition {
+    match guard_test {
         GuardTest::Known(comparison) => AtHand::Holds(comparison_holds(scene, scope, comparison)),
         GuardTest::OfCard(card_test) => AtHand::OfCard(wanted_by(scene, scope, card_test)),
         GuardTest::Top { at, name, value } => {
@@ -96,7 +96,7 @@ fn part_at_hand(scene: &Scene, scope: &Bindings, part: &GuardPart) -> AtHand
     requires fixed { IsFixedPart part.now }
     ensures { IsAtHand (scene_seen scene.now) scope.now (part_meant part.now) result }
 {
-    let hand = guard_test_at_hand(scene, scope, &part.condition);
+    let hand = guard_test_at_hand(scene, scope, &part.guard_test);
     turned_if(is_opposite(part.sense), hand)
 }
 

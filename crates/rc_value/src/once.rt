@@ -57,7 +57,8 @@ fn top_once(scene: &Scene, scope: &Bindings, expr: &CollExpr) -> Option<Option<C
     }
 }
 
-/// The card of an outer variable, or at the top of such cards; there may be none. Whatever one more variable stands for.
+/// The card of an outer variable, or at the top of such cards, whatever one more variable stands for. There may be
+/// none.
 #[inline(always)]
 pub(crate) fn card_once(scene: &Scene, scope: &Bindings, expr: &CardExpr) -> Option<Option<Card>>
     ensures { IfSome result (IsCardOnce (scene_seen scene.now) scope.now (card_seen expr.now)) }
