@@ -1,5 +1,5 @@
 //! Guards of one domain, in parts: what doesn't read the variable that runs over it is asked once.
-ghost use Rattle.std.specs.Prelude.{◌≡◌, ◌+◌, ◌<◌, ◌≤◌, ◌++◌, ◌∷◌, [], length, map, slice_index_or, if◌then◌else◌, IfSome, Some, None, true, false, ℕ};
+ghost use Rattle.std.specs.Prelude.{◌≡◌, ◌+◌, ◌<◌, ◌≤◌, ◌++◌, ◌∷◌, [], length, map, slice_index_or, if◌then◌else◌, IfSome, Some, None, true, ℕ};
 ghost use Rattle.std.specs.List.{list_all};
 ghost use Rattle.rc_play_spec.specs.Value.{card_bound, both, nat_same, tests_value};
 ghost use Rattle.rc_play_spec.specs.Scene.{CardValue};
@@ -20,9 +20,9 @@ use rc_value::{
     test_of, value_in, worth_once,
 };
 
-/// What is asked of each card that the innermost variable stands for. Most guards ask for values, which stand apart
-/// from other tests: for a value, or as a value is to be or not to be, in the row of all cards' values for an
-/// attribute.
+/// What is asked of each card that the innermost variable stands for: what it is worth, or a test. Most guards ask for
+/// values, which stand apart from these: for a value, or as a value is to be or not to be, in the row of all cards'
+/// values for an attribute. They stand last, so that one comparison tells them from the rest.
 #[derive(Clone, Copy)]
 pub(crate) enum SoughtCard<'t> {
     Worth(SoughtWorth),
@@ -139,22 +139,18 @@ fn answer(scene: &Scene, scope: &Bindings, ask: &SoughtCard, card: Card) -> bool
             *value,
             value_in(*row, card.id()),
         ),
-        _ => answer_apart(scene, scope, ask, card),
+        SoughtCard::Worth(worth) => is_worth(scene, *worth, card),
+        SoughtCard::Whole(test) => holds_for(scene, scope, *test, card),
     }
 }
 
-// The same, where it is not by a value. It stands apart from the loop over the cards, which mostly asks for values.
+// Whether a test holds for a card. It stands apart from the loop over the cards, which mostly asks for values.
 #[inline(never)]
-fn answer_apart(scene: &Scene, scope: &Bindings, ask: &SoughtCard, card: Card) -> bool
-    requires apart { asks_value ask.now ≡ false }
-    requires fits { length scope.now + ask_depth ask.now ≤ 5 }
-    ensures { result ≡ ask_value (scene_seen scene.now) scope.now (value_seen card) ask.now }
+fn holds_for(scene: &Scene, scope: &Bindings, test: &Test, card: Card) -> bool
+    requires fits { length scope.now + (1 + test_depth (test_seen test.now)) ≤ 5 }
+    ensures { result ≡ told_of (scene_seen scene.now) scope.now (test_seen test.now) (value_seen card) }
 {
-    match ask {
-        SoughtCard::Worth(worth) => is_worth(scene, *worth, card),
-        SoughtCard::Whole(test) => test_of(scene, &scope.with(Bind::Card(card)), *test),
-        _ => unreachable!(),
-    }
+    test_of(scene, &scope.with(Bind::Card(card)), test)
 }
 
 /// All the answers for a card in one.

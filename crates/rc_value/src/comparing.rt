@@ -173,7 +173,8 @@ fn same_for_all(scene: &Scene, scope: &Bindings, expr: &IntExpr) -> Option<i64>
     }
 }
 
-/// The same, or how many cards a location has, what a card is worth, or what is made of two such numbers.
+/// The same, or how many cards a location has, what a card is worth, or what is made of two such numbers. It stands
+/// apart, as tests of players seldom read these.
 #[cycle(made)]
 #[inline(never)]
 pub(crate) fn made_for_all(scene: &Scene, scope: &Bindings, expr: &IntExpr) -> Option<i64>

@@ -1,8 +1,8 @@
 //! What a test asks of the cards that its innermost variable runs over, where that is at hand: all else that the test
 //! reads is read once for all of them, with no list and with no other test.
 ghost use Rattle.std.specs.Prelude.{◌≡◌, true, IfSome, option_map};
-ghost use Rattle.rc_ast.specs.Names.{who_seen};
 ghost use Rattle.rc_sheet_spec.specs.Sheet.{card_var, worth_of};
+ghost use Rattle.rc_ast.specs.Names.{who_seen};
 ghost use Rattle.rc_ast.specs.Expressions.{card_seen, coll_seen, int_seen, test_seen};
 ghost use Rattle.rc_value.specs.Once.{IsCardOnce, IsTopOnce, IsOuterOwner, IsWorthCompared, alike, valued};
 ghost use Rattle.rc_value.specs.Scene.{scene_seen};

@@ -1,4 +1,4 @@
-//! What is sought in cards: a value for an attribute, or the face of another card.
+//! What is sought in cards: a value for an attribute, the face of another card, or a worth.
 ghost use Rattle.std.specs.Prelude.{◌≡◌, ◌≤◌, ◌++◌, length, filter, option_map, true};
 ghost use Rattle.rc_base.specs.Limits.{most_in_collection, most_in_list};
 ghost use Rattle.rc_play_spec.specs.Value.{cut};
@@ -24,7 +24,8 @@ pub struct SoughtFace {
     pub equal: bool,
 }
 
-/// How what a card is worth by a point map is to compare with a number, or is not to.
+/// How what a card is worth by a point map is to compare with a number, or is not to. The number takes half a word, as
+/// all numbers of a game fit there, so that what is sought stays short: it is handed on again and again.
 #[derive(Clone, Copy)]
 pub struct SoughtWorth {
     pub map: u16,

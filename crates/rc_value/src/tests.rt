@@ -115,8 +115,8 @@ fn over_cards(scene: &Scene, scope: &Bindings, expr: &Test) -> bool
     }
 }
 
-/// What a test asks of the innermost variable's card: its value, its face or its worth, or an opposite. All else that
-/// the test reads is read once for all cards.
+/// What a test asks of the innermost variable's card: its value, its face or its worth, or an opposite of these. All
+/// else that the test reads is read once for all cards.
 #[cycle(values)]
 pub fn sought_of(scene: &Scene, scope: &Bindings, test: &Test) -> Option<Sought>
     requires fits { length scope.now + (1 + test_depth (test_seen test.now)) ≤ 5 }
