@@ -5,6 +5,7 @@ usage: tools/changed [REVISION]            compares the files of this checkout w
 
 A crate is touched where a file of its code, definitions or proofs differs, or what crates.txt lists for it. Files that git isn't told of
 yet count too, but for those that it ignores. Seconds are those of docs/times.txt, from nothing; over work that was kept a check takes less.
+Of the crates below the first of these it tells those of which no check has left a library in this checkout.
 A `?` stands where no time is known, and a `*` behind one that was taken while the machine did much else.
 """
 
@@ -125,6 +126,27 @@ def unknown_in(root: Path, change: Change, taken: dict[Task, Taken]) -> Iterator
             yield f"{crate} ({' and '.join(kinds)})"
 
 
+def unbuilt_below(root: Path, crate: str) -> list[str]:
+    """The crates on which one stands, lowest first, of which no check has left a library here."""
+    crates = listed(root)
+    below, ahead = set(), [crate]
+    while ahead:
+        libraries = {library for library in crates[ahead.pop()] if library in crates} - below
+        below |= libraries
+        ahead += libraries
+    # A library that the gate has left has no stamp, and no check takes it.
+    return [it for it in lowest_first(crates) if it in below and not (root / "crates" / it / "out/rlib/stamp").is_file()]
+
+
+def told_below(root: Path, crate: str, taken: dict[Task, Taken]) -> Iterator[str]:
+    """What is told of the crates below the first that is to be checked."""
+    crates = unbuilt_below(root, crate)
+    if crates:
+        seconds = sum(taken[it, PROOF].seconds for it in crates if (it, PROOF) in taken)
+        yield f"below {crate} no check has left a library here of {', '.join(crates)}:"
+        yield f"`rt check` proves these first ({seconds} seconds) if no check in another checkout did; `rt ci {crate}` takes what `rt ci` has kept"
+
+
 def lines_of(root: Path, change: Change) -> Iterator[str]:
     """What is told of a change."""
     if change.crates:
@@ -134,6 +156,7 @@ def lines_of(root: Path, change: Change) -> Iterator[str]:
         unknown = list(unknown_in(root, change, taken))
         if unknown:
             yield f"unknown: {', '.join(unknown)}"
+        yield from told_below(root, next(iter(change.crates)), taken)
     else:
         yield "no crate is touched"
     strays = sorted({crate for crate in map(crate_of, change.others) if crate})

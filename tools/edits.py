@@ -36,6 +36,7 @@ VARIANTS = re.compile(r"\benum\s+\w+[^{};]*\{(.*?)^\}", re.DOTALL | re.MULTILINE
 
 # Names of the library that edits use and no code does.
 ONLY_IN_EDITS = {"is_ok"}
+ADDED = "another one of the library goes into ONLY_IN_EDITS of tools/edits.py"
 
 # A name in a path, behind a `.`, or before the arguments of a call; and one of a type.
 USED = re.compile(r"\b([a-zA-Z_]\w*)\s*(?=::|\(|!\()|(?:::|(?<!\.)\.)\s*([a-zA-Z_]\w*)|(?<!')\b([A-Z]\w*)")
@@ -153,7 +154,7 @@ def name_faults(code: Code, edit: Edit) -> Iterator[str]:
     """The names in new texts that are nobody's."""
     known = code.known_to(edit.crate) | code.of_library | edit.declared() | {*code.crates}
     for name in sorted({name for _, _, new in edit.pairs for name in names_in(spoken(new))} - known):
-        yield f"there is no '{name}' in {edit.crate}, in a crate below it or in the library"
+        yield f"there is no '{name}' in {edit.crate}, in a crate below it or among the library's names that code uses ({ADDED})"
 
 
 def all_faults(root: Path) -> Iterator[str]:

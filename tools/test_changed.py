@@ -108,6 +108,7 @@ class Changed(InCheckout):
     def test_the_table_has_sums_and_says_what_is_unknown(self) -> None:
         self.write("crates/rc_mid/src/lib.rt", "a\n")
         self.write("crates/rc_mid/specs/A.antt", "a\n")
+        self.write("crates/rc_low/out/rlib/stamp", "a\n")
         rows = [line.split() for line in self.run_tool()[1].splitlines()]
         self.assertEqual(
             rows,
@@ -119,6 +120,18 @@ class Changed(InCheckout):
                 ["unknown:", "rc_top", "(proof)"],
             ],
         )
+
+    def test_crates_below_of_which_there_is_no_library(self) -> None:
+        self.write("crates/rc_top/src/lib.rt", "a\n")
+        both = "below rc_top no check has left a library here of rc_low, rc_mid:\n`rt check` proves these first (30 seconds) if "
+        self.assertIn(both, self.run_tool()[1])
+        # What the gate leaves has no stamp.
+        self.write("crates/rc_mid/out/rlib/rc_mid.rlib/sum", "a\n")
+        self.assertIn(both, self.run_tool()[1])
+        self.write("crates/rc_mid/out/rlib/stamp", "a\n")
+        self.assertIn("a library here of rc_low:\n`rt check` proves these first (10 seconds) if ", self.run_tool()[1])
+        self.write("crates/rc_low/out/rlib/stamp", "a\n")
+        self.assertNotIn("below", self.run_tool()[1])
 
     def test_no_times_are_known(self) -> None:
         (self.root / changing.SECONDS).unlink()

@@ -92,13 +92,13 @@ class Faults(unittest.TestCase):
             ("key.at == Gone", "Gone"),
         ):
             with self.subTest(new):
-                self.assertIn(f"there is no '{name}' in rc_b, in a crate below it or in the library", self.of_name(new))
+                self.assertIn(f"there is no '{name}' in rc_b, in a crate below it or among the library's names that code uses ({edits.ADDED})", self.of_name(new))
 
     def test_what_an_edit_declares_and_what_is_no_code(self) -> None:
         used = ("same(all[0], key)", "mine(key) || b\"Lost(x)\".len() == 'L' as usize // Lost")
         declared = "fn mine<'a>(key: &'a Key) -> bool { true }"
         self.assertEqual(self.faults(used, ("fn look", f"{declared} fn look")), [])
-        told = ["there is no 'mine' in rc_b, in a crate below it or in the library"]
+        told = [f"there is no 'mine' in rc_b, in a crate below it or among the library's names that code uses ({edits.ADDED})"]
         self.assertEqual(self.faults(used, ("//! What b does.", f"//! What b does. {declared}")), told)
 
 
