@@ -18,7 +18,7 @@ from cases.sheets import read_frames
 from faults import kinds
 from faults.explaining import explanation
 from faults.forms import FORMS, MEANINGS, forms_of, forms_with, is_fixed, is_plural, meant_behind, parts_of
-from faults.places import picture, place_of, shown
+from faults.places import Lines, picture, place_of, shown
 from faults.sources import File
 from faults.tokens import end_of, lists_around, rest_of
 from scripted import SECONDS, Scripted
@@ -360,6 +360,7 @@ class Places(unittest.TestCase):
         for at, line, column in ((0, 1, 1), (2, 1, 3), (3, 2, 1), (4, 3, 1), (5, 3, 2), (6, 3, 3), (8, 4, 1), (9, 4, 2)):
             place = place_of(text, at)
             self.assertEqual((place.line, place.column, place.is_end), (line, column, at == 9))
+            self.assertEqual(Lines(text).place_of(at), place)
 
     def test_a_tab_is_one_column_wide(self) -> None:
         self.assertEqual(picture(b"\t\tx", 3), ["      x", "      ^"])

@@ -230,6 +230,14 @@ class Commands(unittest.TestCase):
         self.assertEqual(self.other.stat().st_mtime_ns, time)
         self.assertEqual({it.name for it in self.root.iterdir()}, {"a.sheet", "b.sheet", "link.sheet"})
 
+    def test_no_file_is_written_that_is_longer_than_a_sheet(self) -> None:
+        text = b"(game (do " + b"(if (= 0 0) " * 58 + b"(cycle reverse)" * 9000 + b")" * 60
+        self.file.write_bytes(text)
+        said = f"{self.file}: laid out it has more than 1048576 bytes, which no command reads; nothing is written\n"
+        self.assertEqual(self.ran("--write", self.other, self.file), (8, "", said))
+        self.assertEqual(self.file.read_bytes(), text)
+        self.assertEqual(self.ran("--check", self.file)[0], 1)
+
     def test_refusals(self) -> None:
         for text, why in ((b"(game", "a `)` is missing"), (b"(game))", "`)` stands outside of all lists"), (b"x", "`x` stands outside of all lists")):
             self.file.write_bytes(text)

@@ -7,7 +7,9 @@ import ast
 import io
 import os
 import re
+import resource
 import shutil
+import signal
 import subprocess
 import sys
 import tarfile
@@ -85,6 +87,35 @@ class Released(unittest.TestCase):
             write(cls.folder / "out", cls.files)
         assert told.getvalue().split() == [str(cls.folder / "out" / it) for it in cls.files]
         cls.deb, cls.tar = (next(cls.folder.glob(f"out/*.{kind}")) for kind in ("deb", "tar.gz"))
+
+
+class Writing(Released):
+    def test_no_link_is_followed(self) -> None:
+        folder, kept = self.folder / "links", self.folder / "kept"
+        folder.mkdir()
+        kept.write_bytes(b"kept")
+        (folder / SUMS).symlink_to(kept)
+        with redirect_stdout(io.StringIO()):
+            write(folder, {SUMS: self.files[SUMS]})
+        self.assertEqual((kept.read_bytes(), (folder / SUMS).read_bytes()), (b"kept", self.files[SUMS]))
+
+    def test_names_of_folders_are_told_as_a_terminal_only_shows_them(self) -> None:
+        for name, said in ((b"\x1b[31m", "\\x1b[31m"), (b"\xff", "\\xff"), (b"a\nb", "a\\x0ab")):
+            with redirect_stdout(io.StringIO()) as told:
+                write(self.folder / os.fsdecode(name), {SUMS: b""})
+            self.assertEqual(told.getvalue(), f"{self.folder}/{said}/{SUMS}\n")
+
+    def test_what_cant_be_written_leaves_nothing(self) -> None:
+        folder = self.folder / "full"
+        limit = resource.getrlimit(resource.RLIMIT_FSIZE)
+        before = signal.signal(signal.SIGXFSZ, signal.SIG_IGN)
+        self.addCleanup(signal.signal, signal.SIGXFSZ, before)
+        self.addCleanup(resource.setrlimit, resource.RLIMIT_FSIZE, limit)
+        resource.setrlimit(resource.RLIMIT_FSIZE, (1000, limit[1]))
+        with self.assertRaises(Refused) as refused:
+            write(folder, {SUMS: b"x" * 2000})
+        self.assertEqual((refused.exception.status, str(refused.exception)), (7, f"{folder}: File too large"))
+        self.assertEqual(list(folder.iterdir()), [])
 
 
 class Packages(Released):

@@ -54,6 +54,17 @@ PLANTED = b"""(game
       (any ((current player) iloc HAND) 'C (do (set (game sto WON) 1)))))
   (scoring max ('SELF sto BEST)))
 """
+# An alternative without an item, one whose items are more than a menu has, of all triples of 512 cards, and one behind them.
+FULL = b"""(game
+  (setup (create players 1) (create deck (game vloc PILE) (deck (TENS (%s)) (ONES (%s)))))
+  (stage player
+    (end (= 0 1))
+    (choice
+      (any (game vloc NONE) 'A (do (inc (game sto N) 1)))
+      (any (game vloc PILE) 'A (any (game vloc PILE) 'B (any (game vloc PILE) 'C (do (inc (game sto N) 1)))))
+      (do (inc (game sto N) 1))))
+  (scoring max (game sto N)))
+""" % tuple(" ".join(map(str, range(it))).encode() for it in (16, 32))
 ALWAYS_THE_FIRST = b"(plan (seats (script) (script)) (matches (from 1 1 40)) (turns 9))\n"
 
 # A round never leaves its stage, since what its end reads is never set.
@@ -159,6 +170,17 @@ class Counts(unittest.TestCase):
                     offered = {at for at, is_offered in told.items() if is_offered}
                     self.assertEqual(offered, {it.alternative for it in menu} & told.keys())
                 self.assertTrue(any(offers))
+
+
+    def test_what_stands_behind_a_full_menu_isnt_offered(self) -> None:
+        report = report_of(Sheet(FULL), b"(plan (seats (random 1)) (matches (1 1)) (turns 4))")
+        self.assertEqual(report.told.courses[0].offers, [{0: False, 1: True, 2: False}] * 2)
+        self.assertEqual({it.item < 256 for record in report.told.records for it in record.picks}, {True})
+
+    def test_of_a_partition_the_first_item_is_looked_for(self) -> None:
+        groups = FULL.replace(b"(any (game vloc PILE) 'A (any", b"(any (partition (game vloc PILE) TENS) 'A (any")
+        report = report_of(Sheet(groups), b"(plan (seats (random 1)) (matches (1 1)) (turns 2))")
+        self.assertEqual(report.told.courses[0].offers[0] | {2: None}, {0: False, 1: True, 2: None})
 
 
 class Findings(unittest.TestCase):

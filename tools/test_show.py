@@ -251,6 +251,15 @@ class Deriving(unittest.TestCase):
                     self.assertEqual(alone, told.matches[number])
             self.assertEqual(replay(game).record, told.matches[0])
 
+    def test_a_comment_is_that_of_the_lines_above(self) -> None:
+        setup, effect = b"(setup (create players 1) (create deck (game vloc P) (deck (A (1)))))", b"(set (game sto N) 1)"
+        above, one = b"\n;; Of\n ; all. \n(game ", b"\n; other\n\n; One\n"
+        text = b"%s%s%s(do %s) (do\n%s) (scoring max 0))" % (above, setup, one, effect, effect)
+        sheet = Sheet(text)
+        nodes = [sheet.tree, *sheet.tree.parts[1:]]
+        self.assertEqual([sheet.comment(it) for it in nodes], ["Of all.", "Of all.", "One", "One", ""])
+        self.assertEqual([sheet.line(it) for it in nodes], [text.count(b"\n", 0, it.at) + 1 for it in nodes])
+
     def test_names_that_are_put_in_begin_no_name_of_the_sheet(self) -> None:
         sheet = Sheet(NEVER_REFILLED.replace(b"STOCK", b"HELD0").replace(b"HAND", b"OFFERED0-0"))
         names = derived(sheet, Piece.TESTS, Piece.OFFERS).names
@@ -357,6 +366,11 @@ class Lines(unittest.TestCase):
         lines = replay_lines(of_seat("whist")[0]).splitlines()[1:53]
         self.assertEqual(sum(it.endswith(" chooses") for it in lines), 39)
         self.assertTrue(all("player 3: " in it for it in lines if not it.endswith(" chooses")))
+
+    def test_what_an_alternative_does_is_cut(self) -> None:
+        other = b"(choice (do (move all (union %s) (top (game vloc PILE)))) (any" % (b"(game vloc PILE) " * 99)
+        told = replay_lines(data_of(Sheet(NEVER_REFILLED.replace(b"(choice (any", other)), plan_of(PAIR)))
+        self.assertLess(max(map(len, told.splitlines())), 300)
 
     def test_control_bytes_are_escaped(self) -> None:
         other = b"(choice ; \x1b[31mRed\n; \x1b[31mRed\n(do (inc (game sto X) 1)) (any"

@@ -1,5 +1,7 @@
 """Lines, columns and pictures of places in a source."""
 
+import re
+from bisect import bisect_left
 from dataclasses import dataclass
 
 from telling import printable
@@ -29,6 +31,24 @@ def place_of(text: bytes, at: int) -> Place:
     at = min(at, len(text))
     begin = text.rfind(b"\n", 0, at) + 1
     return Place(text.count(b"\n", 0, at) + 1, at - begin + 1, at == len(text))
+
+
+class Lines:
+    """Where the lines of a text end: for many places of one text, of which each would be counted from its begin."""
+
+    def __init__(self, text: bytes) -> None:
+        self.length = len(text)
+        self.breaks = [it.start() for it in re.finditer(b"\n", text)]
+
+    def place_of(self, at: int) -> Place:
+        """The place of a byte, as `place_of` tells it."""
+        at = min(at, self.length)
+        before = bisect_left(self.breaks, at)
+        return Place(before + 1, at - self.begin(before) + 1, at == self.length)
+
+    def begin(self, line: int) -> int:
+        """Where a line begins, which is counted from 0."""
+        return self.breaks[line - 1] + 1 if line else 0
 
 
 def line_at(text: bytes, at: int) -> bytes:

@@ -12,7 +12,7 @@ from formatting.reading import read
 from inputs import SOURCE
 from linting.trees import Node, Unreadable, placed, read_lists
 from pieces.storing import write_whole
-from tables.ending import TEXT, WRITE_FAULT, Refused, status_of
+from tables.ending import TEXT, TOO_LONG, WRITE_FAULT, Refused, status_of
 from tables.running import Words
 from tables.running import read as bytes_of
 from telling import printable
@@ -45,6 +45,8 @@ def run(options: argparse.Namespace, changed: dict[Path, bytes]) -> None:
     for file in options.files:
         before = bytes_of(file, SOURCE)
         text = formatted(str(file), before)
+        if options.write and len(text) > SOURCE:
+            raise Refused(TOO_LONG, f"{file}: laid out it has more than {SOURCE} bytes, which no command reads; nothing is written")
         if not (options.check or options.write):
             sys.stdout.buffer.write(text)
         elif text != before:

@@ -3,7 +3,7 @@
 import os
 from contextlib import suppress
 
-from faults.places import place_of
+from faults.places import Lines
 from inputs import SOURCE, TooLong, contents
 from linting.finding import Finding
 from linting.limits import refuse_many
@@ -32,8 +32,8 @@ def findings(sheet: Node) -> list[Finding]:
     return sorted(finding for kind in KINDS for finding in kind(sheet))
 
 
-def told(file: str, source: bytes, finding: Finding) -> str:
-    place = place_of(source, finding.at)
+def told(file: str, lines: Lines, finding: Finding) -> str:
+    place = lines.place_of(finding.at)
     return printable(f"{file}:{place.line}:{place.column}: {finding.said}") + "\n"
 
 
@@ -52,7 +52,8 @@ def main(words: list[str]) -> int:
     except Unreadable as fault:
         return fail(f"{file} can't be read as a sheet: {fault}. `./cardhouse sheet` tells its fault.")
     try:
-        write(OUTPUT, "".join(told(file, source, finding) for finding in found))
+        lines = Lines(source)
+        write(OUTPUT, "".join(told(file, lines, finding) for finding in found))
     except OSError:
         return WRITE_FAULT
     return FOUND if found else CLEAN

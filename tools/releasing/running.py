@@ -8,10 +8,12 @@ from pathlib import Path
 from checkout import BUILT, ROOT
 from passed import passed
 from pieces.program import digest, told_by
+from pieces.storing import write_whole
 from releasing.packing import debian, summed, tarred
 from releasing.tree import tree_of
 from tables.ending import TEXT, WRITE_FAULT, Refused, status_of
 from tables.running import Words
+from telling import printable
 from versions import version_of
 
 SUMS = "SHA256SUMS"
@@ -62,12 +64,12 @@ def files_of(root: Path, program: bytes, commit: str, kit: str, seconds: int) ->
 
 
 def write(folder: Path, files: dict[str, bytes]) -> None:
-    """Writes the files, and tells them."""
+    """Writes the files, each as a whole, and tells them. No part of a package stands under its name, and no link is followed."""
     try:
         folder.mkdir(parents=True, exist_ok=True)
         for name, data in files.items():
-            (folder / name).write_bytes(data)
+            write_whole(folder / name, data)
     except OSError as error:
-        raise Refused(WRITE_FAULT, f"{error.filename}: {error.strerror}") from None
+        raise Refused(WRITE_FAULT, f"{error.filename or folder}: {error.strerror}") from None
     for name in files:
-        print(folder / name)
+        print(printable(str(folder / name)))

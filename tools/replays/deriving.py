@@ -8,7 +8,7 @@ scores are those of the sheet itself.
 - *Running scores* are stored numbers that are set to what the scoring says, before each choice.
 - *Tags* are cards that lie open at places of their own. Each alternative first goes over such a place, which has one card. So it
   has the same items in the same order, and the first mark of an item tells its alternative.
-- *Offers* are stored numbers, one for each alternative. Before each choice they tell whether the alternative has an item.
+- *Offers* are stored numbers, one for each alternative. Before each choice they tell whether the alternative has an item in its menu.
 - *Held tests* are stored numbers, one for each `if` among effects. They tell whether its test held so far.
 """
 
@@ -20,6 +20,10 @@ from enum import Enum
 
 from linting.trees import Node
 from replays.sources import ANY, PARTITION, TEST, Sheet
+
+
+# The most items of a menu.
+MENU = 256
 
 
 class Piece(Enum):
@@ -97,17 +101,27 @@ def offer_name(name: str, site: int, alternative: int) -> str:
 
 
 def offers_of(sheet: Sheet, site: int, name: str) -> str:
-    """What notes, before a choice, which of its alternatives have an item."""
-    effects = []
+    """What notes, before a choice, which of its alternatives have an item, and counts these in the number of this name. As the menu
+    does, it looks for no item once there are as many as a menu has. So it takes no longer than the menu itself."""
+    items = f"(game sto {name})"
+    effects = [f"(set {items} 0)"]
     for at, alternative in enumerate(sheet.choices[site].parts[1:]):
         number = f"(game sto {offer_name(name, site, at)})"
-        found = offered(sheet, alternative, f"(set {number} 1)")
-        effects += [f"(set {number} 0)", found] if found else []
-    return f"(do {' '.join(effects)})\n" if effects else ""
+        is_open = f"(< {items} {MENU})"
+        # How many groups there are no effect counts: of their items it looks for the first.
+        goes_on = f"(= {number} 0)" if has_groups(alternative) else is_open
+        found = offered(sheet, alternative, goes_on, f"(set {number} 1) (inc {items} 1)")
+        effects += [f"(set {number} 0)", f"(if {is_open} {found})"] if found else []
+    return f"(do {' '.join(effects)})\n" if len(effects) > 1 else ""
 
 
-def offered(sheet: Sheet, node: Node, noted: str) -> str:
-    """An effect that does the one that notes where an alternative has an item; nothing where no effect can.
+def has_groups(node: Node) -> bool:
+    """Whether a variable of an alternative stands for a group."""
+    return node.form == ANY and (node.parts[1].form == PARTITION or has_groups(node.parts[3]))
+
+
+def offered(sheet: Sheet, node: Node, goes_on: str, noted: str) -> str:
+    """An effect that does what notes an item for those of an alternative, as long as a test says so; nothing where no effect can.
 
     No effect goes over the groups of a partition. There is one where there is a card, and only a test could ask more of it.
     """
@@ -120,8 +134,8 @@ def offered(sheet: Sheet, node: Node, noted: str) -> str:
         if any(it.text == variable.text for asked in asked_by(inner) for it in asked.within()):
             return ""
         domain = domain.parts[1]
-    found = offered(sheet, inner, noted)
-    return found and f"(all {sheet.source(domain)} {variable.text} {found})"
+    found = offered(sheet, inner, goes_on, noted)
+    return found and f"(all {sheet.source(domain)} {variable.text} (if {goes_on} {found}))"
 
 
 def asked_by(node: Node) -> Iterator[Node]:

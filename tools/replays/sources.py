@@ -7,6 +7,7 @@ from dataclasses import dataclass
 from functools import cached_property
 from pathlib import Path
 
+from faults.places import Lines
 from faults.tokens import tokens
 from inputs import SOURCE
 from linting.trees import Node, Unreadable, read_lists, read_sheet
@@ -42,6 +43,8 @@ class Sheet:
     def __init__(self, text: bytes) -> None:
         self.text = text
         self.tree = read_sheet(text)
+        # The comments that were looked for, by how many lines stand before their end: many lists may begin in one line.
+        self.comments: dict[int, str] = {}
 
     @cached_property
     def ends(self) -> dict[int, int]:
@@ -59,22 +62,30 @@ class Sheet:
     def source(self, node: Node) -> str:
         return self.text[node.at : self.ends[node.at]].decode("latin-1")
 
+    @cached_property
+    def lines(self) -> Lines:
+        return Lines(self.text)
+
     def line(self, node: Node) -> int:
         """The line at which a list begins, from 1."""
-        return self.text.count(b"\n", 0, node.at) + 1
+        return self.lines.place_of(node.at).line
 
     def comment(self, node: Node) -> str:
         """The comment that stands on lines of its own directly above a list; nothing where there is none."""
+        above = self.line(node) - 1
+        if above not in self.comments:
+            self.comments[above] = self.comment_before(above)
+        return self.comments[above]
+
+    def comment_before(self, lines: int) -> str:
+        """The comment with which so many first lines of the text end."""
         found: list[bytes] = []
-        end = self.text.rfind(b"\n", 0, node.at)
-        while end >= 0:
-            begin = self.text.rfind(b"\n", 0, end) + 1
-            line = self.text[begin:end].strip()
+        for at in reversed(range(lines)):
+            line = self.text[self.lines.begin(at) : self.lines.begin(at + 1)].strip()
             if not line.startswith(b";"):
                 break
-            found.insert(0, line.lstrip(b"; ").strip())
-            end = begin - 1
-        return b" ".join(found).decode("utf-8", "replace")
+            found.append(line.lstrip(b"; ").strip())
+        return b" ".join(reversed(found)).decode("utf-8", "replace")
 
     @cached_property
     def players(self) -> int:

@@ -12,6 +12,9 @@ TOLD = 2
 # How long a comment may be that names a stage or a choice, or an alternative; a longer one explains something else.
 LONGEST, SHORT = 90, 44
 
+# How much is told of what an alternative does: a page says it at each decision, and it may be as long as the sheet.
+MOST = 200
+
 # What says most of an alternative comes first, and bookkeeping last.
 WEIGHT = ("move", "peek", "shuffle", "inc", "dec", "remember", "cycle", "repeat", "all", "set", "if", "forget")
 
@@ -31,8 +34,12 @@ def alternative_label(sheet: Sheet, node: Node) -> str:
 
 def sentence(comment: str) -> str:
     """The first sentence of a comment, without its full stop."""
-    first = comment.split(". ")[0].rstrip(".")
-    return first if len(first) <= LONGEST else first[: LONGEST - 1].rstrip() + "…"
+    return cut(comment.split(". ")[0].rstrip("."), LONGEST)
+
+
+def cut(text: str, most: int) -> str:
+    """A text, or as much of it as there may be."""
+    return text if len(text) <= most else text[: most - 1].rstrip() + "…"
 
 
 def alternative_words(node: Node) -> str:
@@ -42,7 +49,7 @@ def alternative_words(node: Node) -> str:
     effects = list(node.parts[2:] if node.form.startswith("(if") else node.parts[1:])
     effects.sort(key=lambda it: WEIGHT.index(it.parts[0].text) if it.parts and it.parts[0].text in WEIGHT else len(WEIGHT))
     told = [effect_words(it) for it in effects[:TOLD]]
-    return "; ".join(told) + (" …" if len(effects) > TOLD else "")
+    return cut("; ".join(told), MOST) + (" …" if len(effects) > TOLD else "")
 
 
 def domains(node: Node) -> list[Node]:

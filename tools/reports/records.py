@@ -28,7 +28,7 @@ def write_records(folder: Path, report: Report) -> None:
         for name, text in files.items():
             (folder / name).write_text(text, "utf-8")
     except OSError as error:
-        raise Refused(WRITE_FAULT, f"{error.filename}: {error.strerror}") from None
+        raise Refused(WRITE_FAULT, f"{error.filename or folder}: {error.strerror}") from None
 
 
 def text_of(rows: Iterator[Row]) -> str:
