@@ -18,10 +18,10 @@ ghost use Rattle.rc_code.specs.Implements.{IsSimple, AreSimple};
 ghost use Rattle.rc_undo.specs.Undo.{Keeps};
 ghost use Rattle.rc_rules.specs.Dealer.{ShuffledBy};
 
-use crate::everyone::{change_all, change_for_each, gather_all, gather_for_each};
+use crate::everyone::{change_all, change_for_each, changed_by, gather_all, gather_for_each};
 use crate::scopes::one_more;
 use crate::simple::do_simple;
-use rc_ast::{CollExpr, Domain, Effect, IntExpr};
+use rc_ast::{CollExpr, Domain, IntExpr};
 use rc_base::limits::MOST_TIMES;
 use rc_code::{CompiledTest, Instruction};
 use rc_deck::Memory;
@@ -300,12 +300,7 @@ fn for_each<D: Dealer>(
 #[inline(always)]
 fn is_change(code: &[Instruction]) -> bool {
     match code {
-        [Instruction::Simple(effect)] => match effect {
-            Effect::Set(..) => true,
-            Effect::Inc(..) => true,
-            Effect::Dec(..) => true,
-            _ => false,
-        },
+        [Instruction::Simple(effect)] => changed_by(effect).is_some(),
         _ => false,
     }
 }

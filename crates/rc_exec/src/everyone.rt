@@ -70,10 +70,22 @@ pub fn change_of(
         (frames_seen frames.now.items) (alone (effect_seen effect.now) no_effect) (change_for each)) }
     ensures range { IfSome result (λ each. IsInRange each.value) }
 {
+    match changed_by(effect) {
+        Some((how, num, value)) => change_by(context, how, num, value, table, frames),
+        None => None,
+    }
+}
+
+/// The number that an effect changes, how and by what, if it does no more.
+#[inline(always)]
+pub fn changed_by(effect: &Effect) -> Option<(Change, &Num, &IntExpr)>
+    ensures { IfSome result (λ it. effect_seen effect.now
+        ≡ effect_by it.0 (num_seen it.1.now) (int_seen it.2.now)) }
+{
     match effect {
-        Effect::Set(num, value) => change_by(context, Change::Set, num, value, table, frames),
-        Effect::Inc(num, value) => change_by(context, Change::Increase, num, value, table, frames),
-        Effect::Dec(num, value) => change_by(context, Change::Decrease, num, value, table, frames),
+        Effect::Set(num, value) => Some((Change::Set, num, value)),
+        Effect::Inc(num, value) => Some((Change::Increase, num, value)),
+        Effect::Dec(num, value) => Some((Change::Decrease, num, value)),
         _ => None,
     }
 }

@@ -2,7 +2,7 @@
 ghost use Rattle.std.specs.Prelude.{◌≡◌, false, OnOk, IsOk};
 ghost use Rattle.rc_base.specs.Clamp.{clamped, IsWithinClamp};
 ghost use Rattle.rc_play_spec.specs.Effects as effects;
-ghost use Rattle.rc_play_spec.specs.Value.{int_value, number_there};
+ghost use Rattle.rc_play_spec.specs.Value.{int_value};
 ghost use Rattle.rc_ast.specs.Names.{num_seen};
 ghost use Rattle.rc_ast.specs.Expressions.{int_seen};
 ghost use Rattle.rc_table.specs.Laid.{relaid};
@@ -15,10 +15,11 @@ ghost use Rattle.rc_undo.specs.Undo.{Keeps};
 use rc_ast::{IntExpr, Num};
 use rc_base::limits::LARGEST_NUMBER;
 use rc_deck::Memory;
+use rc_play_spec::values_stay_within_limits;
 use rc_rules::Frames;
 use rc_table::Table;
 use rc_undo::Board;
-use rc_value::{Change, Context, int_now, num_now};
+use rc_value::{Change, Context, int_now, num_now, number_at_hand, scene_now};
 
 /// Sets a number to the value of an expression. A value that is written out takes no call.
 #[inline(never)]
@@ -167,7 +168,7 @@ fn change(
     }
 }
 
-// The number that an expression stands for. One that the game keeps is read with no call.
+// The number that an expression stands for. One that is at hand is read with no call.
 #[inline(always)]
 fn value_now(context: &Context, expr: &IntExpr, table: &Table, frames: &Frames) -> i64
     requires stands { IsContextOf context.now table.now frames.now.items }
@@ -176,21 +177,12 @@ fn value_now(context: &Context, expr: &IntExpr, table: &Table, frames: &Frames) 
         (int_seen expr.now) }
     ensures clamped { IsWithinClamp result }
 {
-    match expr {
-        IntExpr::Num(num) => number_or_none(table, num_now(context, num, table, frames)),
-        _ => int_now(context, expr, table, frames),
-    }
-}
-
-// The number at a place, and 0 where there is none.
-#[inline(always)]
-fn number_or_none(table: &Table, at: Option<u16>) -> i64
-    ensures number { result ≡ number_there table.now.table.numbers at }
-    ensures clamped { IsWithinClamp result }
-{
-    match at {
-        Some(at) => table.number(at),
-        None => 0,
+    values_stay_within_limits();
+    // what a table keeps
+    let _sound = table.shape();
+    match number_at_hand(&scene_now(context, table, frames), context.scope, expr) {
+        Some(value) => value,
+        None => int_now(context, expr, table, frames),
     }
 }
 
