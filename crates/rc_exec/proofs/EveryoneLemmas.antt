@@ -1,22 +1,18 @@
 -- Changing a number at each player's turn, and gathering the cards of a location of each, is what the effect does for
 -- one player after the other.
-use Rattle.std.proofs.Common.{◌≡◌, ◌≢◌, ℕ, zero, suc, ◌+◌, ◌<◌, ◌≤◌, nat_lt, cond, Bool, true, false, ◌&&◌, List, []}
-use Rattle.std.proofs.Common.{◌∷◌, ◌++◌, length, map, slice_get, Option, Some, None, option_map, refl, sym, ap, ◌∙◌}
-use Rattle.std.proofs.Common.{subst, arith}
-use Rattle.std.specs.Prelude.{fold, sum_by, IfSome}
+use Rattle.std.proofs.Common.{◌≡◌, ◌≢◌, ℕ, zero, suc, ◌<◌, List, []}
+use Rattle.std.proofs.Common.{◌∷◌, ◌++◌, length, map, slice_get, Option, Some, None, refl, sym, ap, ◌∙◌}
+use Rattle.std.proofs.Common.{arith}
+use Rattle.std.specs.Prelude.{fold}
 use Rattle.std.specs.List.{AllByRecursion}
-use Rattle.std.proofs.lemmas.Bool.{lt-ltb, ltb-true}
-use Rattle.std.proofs.lemmas.List.Sums.{sum_by-cons}
-use Rattle.rc_base.specs.Limits.{most_numbers}
 use Rattle.rc_base.specs.Numbers.{below}
-use Rattle.rc_sheet_spec.specs.Sheet.{Sheet, Class, game_class, team_class, Effects, effect, no_effect, Who, game}
+use Rattle.rc_sheet_spec.specs.Sheet.{Effects, effect, no_effect, Who, game}
 use Rattle.rc_sheet_spec.specs.Sheet.{current_player, current_team, team_of_current, team_of_var, who_var, Loc, LocName}
-use Rattle.rc_sheet_spec.specs.Sheet.{Num, NumName, IntExpr, player_class}
-use Rattle.rc_sheet_spec.specs.WellFormed.{owner_count}
+use Rattle.rc_sheet_spec.specs.Sheet.{Num, IntExpr, player_class}
 use Rattle.rc_sheet_spec.specs.Naming.{class_of}
 use Rattle.rc_play_spec.specs.About.{About, scene_at}
 use Rattle.rc_play_spec.specs.Control.{Frame}
-use Rattle.rc_play_spec.specs.Owners.{place_among, class_eq}
+use Rattle.rc_play_spec.specs.Owners.{place_among}
 use Rattle.rc_play_spec.specs.Scene.{CardValue, Vars}
 use Rattle.rc_play_spec.specs.Shape.{team_at}
 use Rattle.rc_play_spec.specs.Table.{Table}
@@ -28,7 +24,7 @@ use Rattle.rc_play_spec.proofs.OnePlace.{innermost_player}
 use Rattle.rc_value.specs.Leads.{effect_by}
 use Rattle.rc_value.specs.declared.change.Change.{Change}
 use Rattle.rc_undo.specs.Piled.{topped, piled}
-use Rattle.rc_exec.specs.Everyone.{AreTurns, number_of, place_of, value_of, IsPlaceOf, IsValueOf, change_for, gathering}
+use Rattle.rc_exec.specs.Everyone.{AreTurns, place_of, value_of, IsPlaceOf, IsValueOf, change_for, gathering}
 use Rattle.rc_exec.specs.Everyone.{IsApart, location_of, gather_for}
 use Rattle.rc_exec.specs.declared.changes.EachPlace.{EachPlace}
 use Rattle.rc_exec.specs.declared.changes.EachValue.{EachValue}
@@ -73,77 +69,6 @@ module _ (about : About) (vars : Vars) (frames : List Frame) (how : Change) (num
       (ap (λ stages. num_place (scene_at about now.table stages).known inner num) same ∙ at player lt now.table)
       (sym (ap (λ stages. int_value (scene_at about now.table stages) inner expr) same ∙ by player lt now.table))
       refl
-
--- a player's own number of a name stands as far behind the first player's as the player's number says
-module _ (sheet : Sheet) (player : ℕ) (lt : player < sheet.players) where
-  abbrev moved : Option ℕ → Option ℕ
-  moved = option_map (λ first. first + player)
-
-  one_class : (class : Class) →
-      place_among sheet player_class (class ∷ []) 0 player ≡ moved (place_among sheet player_class (class ∷ []) 0 0)
-  one_class game_class = refl
-  one_class team_class = refl
-  one_class player_class =
-      let here : nat_lt player sheet.players ≡ true = lt-ltb player sheet.players lt in
-      let some : 0 < sheet.players = omega (arith, lt) in
-      let there : nat_lt 0 sheet.players ≡ true = lt-ltb 0 sheet.players some in
-      let same : player ≡ 0 + player = omega arith in
-      ap (λ b. cond b (Some player) None) here ∙ ap Some same ∙ sym (ap (λ b. moved (cond b (Some 0) None)) there)
-
-  further : (count : ℕ) (place : Option ℕ) →
-      option_map (λ n. count + n) (moved place) ≡ moved (option_map (λ n. count + n) place)
-  further count None = refl
-  further count (Some first) =
-      let same : count + (first + player) ≡ count + first + player = omega arith in ap Some same
-
-  own_among : (classes : List Class) (name : ℕ) →
-      place_among sheet player_class classes name player ≡ moved (place_among sheet player_class classes name 0)
-  own_among [] name = refl
-  own_among (class ∷ classes) zero = one_class class
-  own_among (class ∷ classes) (suc name) =
-      ap (option_map (λ n. owner_count sheet class + n)) (own_among classes name)
-      ∙ further (owner_count sheet class) (place_among sheet player_class classes name 0)
-
-  pub own_number : (name first : ℕ) → number_of sheet name 0 ≡ Some first →
-      number_of sheet name player ≡ Some (first + player)
-  own_number name first is =
-      own_among (map (λ (num : NumName). num.class) sheet.nums) name ∙ ap moved is
-
--- each number stands among all of them
-module _ (sheet : Sheet) (class : Class) (owner : ℕ) where
-  abbrev count : NumName → ℕ
-  count num = owner_count sheet num.class
-
-  later : (before all : ℕ) (place : Option ℕ) →
-      IfSome place (λ n. n < all) → IfSome (option_map (λ n. before + n) place) (λ n. n < before + all)
-  later before all None few = tt
-  later before all (Some n) few = omega (arith, few)
-
-  guarded : (b c : Bool) (all : ℕ) → (c ≡ true → owner < all) → IfSome (cond (b && c) (Some owner) None) (λ n. n < all)
-  guarded false c all few = tt
-  guarded true false all few = tt
-  guarded true true all few = few refl
-
-  few_numbers : (nums : List NumName) (name : ℕ) →
-      IfSome (place_among sheet class (map (λ (num : NumName). num.class) nums) name owner) (λ n. n < sum_by count nums)
-  few_numbers [] name = tt
-  few_numbers (num ∷ nums) zero =
-      let place = place_among sheet class (num.class ∷ []) 0 owner in
-      subst (λ all. IfSome place (λ n. n < all)) (sym (sum_by-cons count num nums))
-      (guarded (class_eq num.class class) (nat_lt owner (count num)) (count num + sum_by count nums)
-      (λ is. let less : owner < count num = ltb-true owner (count num) is in omega (arith, less)))
-  few_numbers (num ∷ nums) (suc name) =
-      let place = place_among sheet class (map (λ (num : NumName). num.class) nums) name owner in
-      subst (λ all. IfSome (option_map (λ n. count num + n) place) (λ n. n < all)) (sym (sum_by-cons count num nums))
-      (later (count num) (sum_by count nums) place (few_numbers nums name))
-
-  pub few_places : (name n : ℕ) →
-      place_among sheet class (map (λ (num : NumName). num.class) sheet.nums) name owner ≡ Some n →
-      sum_by count sheet.nums ≤ most_numbers → n ≤ most_numbers
-  few_places name n is few =
-      let all = sum_by count sheet.nums in
-      let less : n < all = subst (λ place. IfSome place (λ n. n < all)) is (few_numbers sheet.nums name) in
-      omega (arith, less, few)
 
 -- CARDS
 

@@ -1,5 +1,5 @@
 -- Tests of all players that compare a number of each with one that is the same for all.
-use Rattle.std.proofs.Common.{◌≡◌, ℕ, ℤ, pos, false, Bool, List, [], ◌∷◌, ◌++◌, length, map, slice_get, Option, Some, None, refl, sym, ap, ap₂, ◌∙◌}
+use Rattle.std.proofs.Common.{◌≡◌, ℕ, ◌+◌, ◌<◌, ℤ, pos, false, Bool, List, [], ◌∷◌, ◌++◌, length, map, slice_get, Option, Some, None, option_map, refl, sym, ap, ap₂, ◌∙◌}
 use Rattle.std.specs.Prelude.{IfSome}
 use Rattle.std.specs.List.{list_all}
 use Rattle.std.specs.Ordering.{int_eq}
@@ -14,9 +14,11 @@ use Rattle.rc_code.specs.declared.atoms.Comparator.TheVariants.{Equal}
 use Rattle.rc_value.specs.declared.comparing.Own.{Own}
 use Rattle.rc_value.specs.declared.comparing.Own.TheVariants.{Number, Size}
 use Rattle.rc_value.specs.declared.comparing.SoughtNumber.{SoughtNumber}
-use Rattle.rc_value.specs.Comparing.{compare, held, suits, ArePaired, IsHisOwn, IsSameForAll, IsSuited}
+use Rattle.rc_value.specs.Comparing.{compare, held, held_at, place_held, suits}
+use Rattle.rc_value.specs.Comparing.{ArePaired, IsHisOwn, IsSameForAll, IsSuited}
 use Rattle.rc_value.specs.Over.{over}
 use Rattle.rc_value.proofs.OverLemmas.{over_alike}
+use Rattle.rc_value.proofs.OwnLemmas.{own_among}
 use Rattle.rc_value.proofs.WantedLemmas.{at_end}
 
 -- what the innermost variable stands for
@@ -33,6 +35,20 @@ pub size_own : (place : ℕ) (loc : Loc) → loc.who ≡ who_var place → IsHis
 size_own place loc his = λ s vars player count.
     ap (λ who. pos (length (cut (cards_there s (place_among s.known.sheet (class_of who) (map (λ (l : LocName). l.class) s.known.sheet.locs) loc.name (who_value s.known (vars ++ player_bound player ∷ []) who)))))) his
     ∙ ap (λ n. pos (length (cut (cards_there s (place_among s.known.sheet player_class (map (λ (l : LocName). l.class) s.known.sheet.locs) loc.name n))))) (bound_player vars player place count)
+
+-- where there is no place, and what a player has, found from the place of what the first one has
+pub held_nowhere : (s : PureScene CardValue) (own : Own) → held_at s own None ≡ pos 0
+held_nowhere s (Number name) = refl
+held_nowhere s (Size name) = refl
+
+pub held_further : (s : PureScene CardValue) (own : Own) (player : ℕ) → player < s.known.sheet.players →
+    held_at s own (option_map (λ at. at + player) (place_held s.known.sheet own 0)) ≡ held s own player
+held_further s (Number name) player lt =
+    let classes = map (λ (num : NumName). num.class) s.known.sheet.nums in
+    ap (held_at s (Number name)) (sym (own_among s.known.sheet player lt classes name))
+held_further s (Size name) player lt =
+    let classes = map (λ (loc : LocName). loc.class) s.known.sheet.locs in
+    ap (held_at s (Size name)) (sym (own_among s.known.sheet player lt classes name))
 
 module _ (s : PureScene CardValue) (vars : List (PureBind CardValue)) where
   -- two numbers, of which the first is his

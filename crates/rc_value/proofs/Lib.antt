@@ -1,6 +1,7 @@
 pub mod Lists
 pub mod BindingLemmas
 pub mod OverLemmas
+pub mod OwnLemmas
 pub mod Steps
 pub mod Passing
 pub mod Faces

@@ -1,7 +1,7 @@
 -- Tests of all players that compare what each has with a number that is the same for all.
-use Rattle.std.specs.Prelude.{◌≡◌, ℕ, ℤ, pos, int_lt, int_le, ◌++◌, ◌∷◌, [], Bool, List, length, map}
+use Rattle.std.specs.Prelude.{◌≡◌, ℕ, ℤ, pos, int_lt, int_le, ◌++◌, ◌∷◌, [], Bool, List, Option, length, map}
 use Rattle.std.specs.Ordering.{int_eq}
-use Rattle.rc_sheet_spec.specs.Sheet.{player_class, IntExpr, Test}
+use Rattle.rc_sheet_spec.specs.Sheet.{player_class, IntExpr, Sheet, Test}
 use Rattle.rc_play_spec.specs.Owners.{place_among}
 use Rattle.rc_play_spec.specs.Value.{Scene as PureScene, Bind as PureBind, player_bound, number_there, cards_there, cut, int_value, test_value}
 use Rattle.rc_play_spec.specs.Scene.{CardValue}
@@ -27,22 +27,19 @@ turned AtMost = AtLeast
 turned More = Less
 turned AtLeast = AtMost
 
--- a player's number of a name, and 0 where he has none
-abbrev pub number_held : PureScene CardValue → ℕ → ℕ → ℤ
-number_held s name player =
-    number_there s.known.numbers
-    (place_among s.known.sheet player_class (map (λ n. n.class) s.known.sheet.nums) name player)
+-- the place of what a player has of a name: of a number, or of a location
+abbrev pub place_held : Sheet → Own → ℕ → Option ℕ
+place_held sheet (Number name) player = place_among sheet player_class (map (λ n. n.class) sheet.nums) name player
+place_held sheet (Size name) player = place_among sheet player_class (map (λ l. l.class) sheet.locs) name player
 
--- how many cards a player has in his location of a name
-abbrev pub size_held : PureScene CardValue → ℕ → ℕ → ℕ
-size_held s name player =
-    length (cut
-    (cards_there s (place_among s.known.sheet player_class (map (λ l. l.class) s.known.sheet.locs) name player)))
+-- what stands at a place: a number, or so many cards, and 0 where there is no place
+abbrev pub held_at : PureScene CardValue → Own → Option ℕ → ℤ
+held_at s (Number name) at = number_there s.known.numbers at
+held_at s (Size name) at = pos (length (cut (cards_there s at)))
 
 -- what he has of a name
 abbrev pub held : PureScene CardValue → Own → ℕ → ℤ
-held s (Number name) player = number_held s name player
-held s (Size name) player = pos (size_held s name player)
+held s own player = held_at s own (place_held s.known.sheet own player)
 
 -- whether it compares as it is to
 abbrev pub suits : PureScene CardValue → SoughtNumber → ℕ → Bool

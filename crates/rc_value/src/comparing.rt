@@ -1,14 +1,14 @@
 //! Tests of all players that compare what each has, a number of his or how many cards in a location, with a number that
 //! is the same for all: that one is found once, and of each player no more is looked up than what he has.
-ghost use Rattle.std.specs.Prelude.{◌≡◌, ℕ, ◌≤◌, [], IfSome};
-ghost use Rattle.rc_base.specs.Limits.{most_in_list};
+ghost use Rattle.std.specs.Prelude.{◌≡◌, ℕ, ◌+◌, ◌<◌, ◌≤◌, [], length, option_map, Some, IfSome};
+ghost use Rattle.rc_base.specs.Limits.{most_in_list, most_locations};
 ghost use Rattle.rc_base.specs.Numbers.{below};
 ghost use Rattle.rc_sheet_spec.specs.Sheet.{all_of, cards_in, each_player, eq_int, literal, number};
 ghost use Rattle.rc_sheet_spec.specs.Sheet.{size_of as size_expr, who_var};
-ghost use Rattle.rc_play_spec.specs.Value.{test_value};
+ghost use Rattle.rc_play_spec.specs.Value.{cards_there, cut, test_value};
 ghost use Rattle.rc_ast.specs.Names.{num_seen};
 ghost use Rattle.rc_ast.specs.Expressions.{coll_seen, int_seen, test_seen};
-ghost use Rattle.rc_value.specs.Comparing.{compare, held, number_held, size_held, suits, turned};
+ghost use Rattle.rc_value.specs.Comparing.{compare, held_at, place_held, suits, turned};
 ghost use Rattle.rc_value.specs.Comparing.{ArePaired, IsComparison, IsHisOwn, IsSameForAll, IsSuited};
 ghost use Rattle.rc_value.specs.declared.comparing.Own.TheVariants.{Size};
 ghost use Rattle.rc_value.specs.Over.{over};
@@ -237,63 +237,78 @@ fn over_sized(scene: &Scene, name: u16, how: Comparator, against: i64, any: bool
     }
 }
 
-// The same, player by player.
+// The same, player by player. What each has stands as far behind what the first one has as his number says, so a place
+// is looked up once.
 #[inline(always)]
 fn over_each(scene: &Scene, suited: SoughtNumber, any: bool) -> bool
     ensures { result ≡ over any (suits (scene_seen scene.now) suited)
         (below (scene_seen scene.now).known.sheet.players) }
 {
+    let first = first_place(scene, suited.own);
     for player in 0..scene.sheet.players {
-        if does_suit(scene, suited, player) == any {
+        if does_suit(scene, suited, first, player) == any {
             return any;
         }
     }
     !any
 }
 
+// The place of what the first player has of a name, if he has any.
 #[inline(always)]
-fn does_suit(scene: &Scene, suited: SoughtNumber, player: u8) -> bool
+fn first_place(scene: &Scene, own: Own) -> Option<u16>
+    ensures place { result ≡ place_held (scene_seen scene.now).known.sheet own 0 }
+    ensures few { IfSome result (λ at. at ≤ most_locations) }
+{
+    match own {
+        Own::Number(name) => scene.lookup.number(name, Class::Player, 0),
+        Own::Size(name) => scene.lookup.location(name, Class::Player, 0),
+    }
+}
+
+#[inline(always)]
+fn does_suit(scene: &Scene, suited: SoughtNumber, first: Option<u16>, player: u8) -> bool
+    requires first { first ≡ place_held (scene_seen scene.now).known.sheet suited.own 0 }
+    requires few { IfSome first (λ at. at ≤ most_locations) }
+    requires there { player < (scene_seen scene.now).known.sheet.players }
     ensures { result ≡ suits (scene_seen scene.now) suited player }
 {
     compare(
         suited.how,
-        held_by(scene, suited.own, player),
+        held_behind(scene, suited.own, first, player),
         suited.against,
     )
 }
 
-// What a player has.
+// What stands as far behind a place as a player's number says, and 0 where there is no place.
 #[inline(always)]
-fn held_by(scene: &Scene, own: Own, player: u8) -> i64
-    ensures { result ≡ held (scene_seen scene.now) own player }
+fn held_behind(scene: &Scene, own: Own, first: Option<u16>, player: u8) -> i64
+    requires { IfSome first (λ at. at ≤ most_locations) }
+    ensures { result ≡ held_at (scene_seen scene.now) own (option_map (λ at. at + player) first) }
+{
+    match first {
+        Some(first) => held_at(scene, own, first + u16::from(player)),
+        None => 0,
+    }
+}
+
+// What stands at a place: a number, or so many cards.
+#[inline(always)]
+fn held_at(scene: &Scene, own: Own, at: u16) -> i64
+    ensures { result ≡ held_at (scene_seen scene.now) own (Some at) }
 {
     match own {
-        Own::Number(name) => number_held_by(scene, name, player),
-        Own::Size(name) => size_held_by(scene, name, player) as i64,
+        Own::Number(_) => scene.table.number(at),
+        Own::Size(_) => size_at(scene, at) as i64,
     }
 }
 
-// How many cards a player has in his location of a name.
+// How many cards stand at a place.
 #[inline(always)]
-fn size_held_by(scene: &Scene, name: u16, player: u8) -> usize
-    ensures count { result ≡ size_held (scene_seen scene.now) name player }
+fn size_at(scene: &Scene, at: u16) -> usize
+    ensures count { result ≡ length (cut (cards_there (scene_seen scene.now) (Some at))) }
     ensures few { result ≤ most_in_list }
 {
-    match scene.lookup.location(name, Class::Player, player) {
-        Some(at) => scene.table.list(at).len(),
-        None => 0,
-    }
-}
-
-// A player's number of a name, and 0 where he has none.
-#[inline(always)]
-fn number_held_by(scene: &Scene, name: u16, player: u8) -> i64
-    ensures { result ≡ number_held (scene_seen scene.now) name player }
-{
-    match scene.lookup.number(name, Class::Player, player) {
-        Some(at) => scene.table.number(at),
-        None => 0,
-    }
+    scene.table.list(at).len()
 }
 
 /// Whether each player has so many cards in his location of a name. Neither the word of the test's variable nor the

@@ -11,6 +11,10 @@ use Rattle.rc_value.proofs.comparing.over_each.Goals as goal
 pub loop-player-init : goal.loop-player-init
 loop-player-init c = ap (λ n. over c.args.any (suits (scene_seen c.args.scene.now) c.args.suited) (below n)) (sym (players_are c.args.scene.now))
 
+pub does_suit-requires-clause-there : goal.does_suit-requires-clause-there
+unfolding scene_seen
+does_suit-requires-clause-there c = c.loop-player-test.true
+
 pub loop-player-preserved : goal.loop-player-preserved
 loop-player-preserved c =
     let n = below_length c.args.scene.now.sheet.now.players in
