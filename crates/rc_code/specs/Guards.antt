@@ -1,5 +1,5 @@
 -- What the parts of a guard stand for, and of which alternatives a guard in parts is the guard.
-use Rattle.std.specs.Prelude.{◌≡◌, ℕ, List, [], ◌∷◌, map, Bool, All, ⊤, if◌then◌else◌}
+use Rattle.std.specs.Prelude.{◌≡◌, ℕ, List, [], ◌∷◌, map, Bool, true, All, ⊤, if◌then◌else◌}
 use Rattle.rc_sheet_spec.specs.Sheet.{Alt, Effects, Test, Who, game, current_player, current_team, team_of_current, team_of_var, who_var, Loc, card_var, top_card, cards_in, eq_attr, all_of, any_of, Domain, each_card, has_value, ne, not_of, and_of, or_of, any_alt, if_alt}
 use Rattle.rc_sheet_spec.specs.Lists.{tests_from}
 use Rattle.rc_ast.specs.Names.{loc_seen, num_seen}
@@ -8,6 +8,7 @@ use Rattle.rc_code.specs.declared.amounts.Amount.TheVariants.{Literal, Number, S
 use Rattle.rc_code.specs.declared.atoms.Comparison.{Comparison}
 use Rattle.rc_code.specs.declared.atoms.Comparison.TheVariants.{Compare, Same}
 use Rattle.rc_code.specs.FlatMeaning.{comparison_meant}
+use Rattle.rc_code.specs.Following.{Follows}
 use Rattle.rc_code.specs.declared.guards.Sense.{Sense}
 use Rattle.rc_code.specs.declared.guards.Sense.TheVariants.{Plain, Ne, Not}
 use Rattle.rc_code.specs.declared.guards.CardTest.{CardTest}
@@ -100,8 +101,11 @@ IsGuardTestOf t guard_test = (guard_test_meant guard_test ≡ t) × IsFixedGuard
 abbrev pub IsPartOf : Test → GuardPart → Type 0
 IsPartOf t part = (part_meant part ≡ t) × IsFixedPart part
 
+-- a guard of which no variable owns any location, and which is known to follow only where it does
 abbrev pub IsFixedGuard : Guard → Type 0
-IsFixedGuard guard = IsFixedLoc (loc_seen guard.loc) × All IsFixedPart guard.parts.items
+IsFixedGuard guard =
+    IsFixedLoc (loc_seen guard.loc) × All IsFixedPart guard.parts.items
+    × (guard.follows ≡ true → Follows (loc_seen guard.loc) guard.joint guard.parts.items)
 
 -- Whether an alternative outside all binders offers the cards of a location for which this guard holds. The number of the
 -- variable's word and the effects are those of the alternative.

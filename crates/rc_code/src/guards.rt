@@ -10,6 +10,7 @@ ghost use Rattle.rc_code.specs.FlatMeaning.{amount_meant, comparison_meant};
 
 use crate::amounts::Amount;
 use crate::atoms::{Comparison, comparison_of};
+use crate::following::follows;
 use arrayvec::ArrayVec;
 use rc_ast::{Alt, CardExpr, CollExpr, Domain, Loc, Test, Who};
 
@@ -78,12 +79,14 @@ pub enum Joint {
     Any,
 }
 
-/// A guard of the cards of a location. No variable owns any of its locations.
+/// A guard of the cards of a location. No variable owns any of its locations. It is known to follow where its last two
+/// parts say that a card passes a test, or that none of the location's cards does.
 #[derive(Drop)]
 pub struct Guard {
     pub loc: Loc,
     pub joint: Joint,
     pub parts: FewParts,
+    pub follows: bool,
 }
 
 // Whether no variable stands for an owner.
@@ -378,7 +381,15 @@ fn joined_guard(loc: Loc, joint: Joint, tests: &Vec<Test>) -> Option<Guard>
     ensures found { is_some result ≡ are_few_parts (tests_seen tests.now.items) }
 {
     match parts_of(tests) {
-        Some(parts) => Some(Guard { loc, joint, parts }),
+        Some(parts) => {
+            let follows = follows(&loc, joint, parts.as_slice());
+            Some(Guard {
+                loc,
+                joint,
+                parts,
+                follows,
+            })
+        }
         None => None,
     }
 }
@@ -399,6 +410,7 @@ fn sole_guard(loc: Loc, test: &Test) -> Option<Guard>
                 loc,
                 joint: Joint::Sole,
                 parts,
+                follows: false,
             })
         }
         None => None,

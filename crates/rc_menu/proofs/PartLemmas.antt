@@ -41,7 +41,7 @@ fixed_who team_of_current fixed = λ known vars vars'. refl
 fixed_who (team_of_var var) fixed = absurd fixed
 fixed_who (who_var var) fixed = absurd fixed
 
-fixed_here : (loc : PureLoc) → IsFixedLoc loc → IsFixedCollection (cards_in loc)
+pub fixed_here : (loc : PureLoc) → IsFixedLoc loc → IsFixedCollection (cards_in loc)
 fixed_here loc fixed = fixed_cards loc (cards_in loc) refl (fixed_who loc.who fixed)
 
 pub fixed_above : (loc : PureLoc) → IsFixedLoc loc → IsFixed (top_card (cards_in loc))

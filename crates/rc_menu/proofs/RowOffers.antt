@@ -1,5 +1,5 @@
 -- What is offered of the cards of a row.
-use Rattle.std.proofs.Common.{◌≡◌, ℕ, Bool, true, false, not, cond, List, [], ◌∷◌, map, refl, sym, ap, ◌∙◌}
+use Rattle.std.proofs.Common.{◌≡◌, ℕ, ◌+◌, ◌++◌, Bool, true, false, cond, List, [], ◌∷◌, map, length, arith, refl, sym, ap, ◌∙◌}
 use mathlib.Core.Path.{fun_ext}
 use Rattle.std.specs.List.{list_all}
 use Rattle.rc_sheet_spec.specs.Sheet.{Alt as PureAlt, Test as PureTest, cards_in, if_alt}
@@ -66,12 +66,20 @@ sole_offers ask any asks ids is =
     (fun_ext (λ id. ap (λ b. cond b ([] ∷ []) []) (joined_sole any (met_value id ask) ∙ ap (λ xs. joined any (map (met_value id) xs)) (sym is))))
 
 -- what is settled once and for all, and what isn't
-pub settled_offers : (settled any way : Bool) (f : ℕ → Bool) (ids : List ℕ) → not settled ≡ false → any ≡ way →
-    from_each (λ id. cond way ([] ∷ []) []) 0 ids ≡ from_each (λ id. cond (cond settled any (f id)) ([] ∷ []) []) 0 ids
-settled_offers true any way f ids so is = ap (λ b. from_each (λ id. cond b ([] ∷ []) []) 0 ids) (sym is)
-settled_offers false any way f ids so is = absurd (cc)
+each_alike : {A B : Type 0} (offered : List (List ℕ)) (n : ℕ) (xs : List A) (ys : List B) → length xs ≡ length ys →
+    from_each (λ x. offered) n xs ≡ from_each (λ y. offered) n ys
+each_alike offered n [] [] alike = refl
+each_alike offered n [] (y ∷ ys) alike = absurd (omega (arith, alike))
+each_alike offered n (x ∷ xs) [] alike = absurd (omega (arith, alike))
+each_alike offered n (x ∷ xs) (y ∷ ys) alike = ap (λ more. map (λ s. n ∷ s) offered ++ more) (each_alike offered (n + 1) xs ys (omega (arith, alike)))
 
-pub asked_offers : (settled any : Bool) (f : ℕ → Bool) (ids : List ℕ) → not settled ≡ true →
+pub settled_offers : {A B : Type 0} (way : Bool) (told : B → Bool) (xs : List A) (ys : List B) → length xs ≡ length ys → ((y : B) → told y ≡ way) →
+    from_each (λ x. cond way ([] ∷ []) []) 0 xs ≡ from_each (λ y. cond (told y) ([] ∷ []) []) 0 ys
+settled_offers way told xs ys alike same =
+    each_alike (cond way ([] ∷ []) []) 0 xs ys alike
+    ∙ ap (λ g. from_each g 0 ys) (fun_ext (λ y. ap (λ b. cond b ([] ∷ []) []) (sym (same y))))
+
+pub asked_offers : (settled any : Bool) (f : ℕ → Bool) (ids : List ℕ) → settled ≡ false →
     from_each (λ id. cond (f id) ([] ∷ []) []) 0 ids ≡ from_each (λ id. cond (cond settled any (f id)) ([] ∷ []) []) 0 ids
-asked_offers true any f ids so = absurd (cc)
-asked_offers false any f ids so = refl
+asked_offers settled any f ids so =
+    ap (λ g. from_each g 0 ids) (fun_ext (λ id. ap (λ way. cond (cond way any (f id)) ([] ∷ []) []) (sym so)))

@@ -1,3 +1,4 @@
+pub mod Following
 pub mod Menu
 pub mod AlikeMenus
 pub mod Alike

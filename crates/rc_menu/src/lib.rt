@@ -10,6 +10,7 @@ mod alike;
 mod asks;
 mod bounds;
 mod filling;
+mod following;
 mod known;
 mod menu;
 mod offering;

@@ -15,9 +15,10 @@ ghost use Rattle.rc_menu.specs.Menu.{extended};
 ghost use Rattle.rc_value.specs.Scene.{scene_seen};
 
 use crate::asks::{
-    Asks, Parts, SoughtCard, are_sought, has_value, joined_answer, joined_met, parts_of, sole_value,
+    Asks, SoughtCard, are_sought, has_value, joined_answer, joined_met, parts_of, sole_value,
 };
-use crate::parts::known_parts;
+use crate::following::{offer_passing, split_of};
+use crate::parts::{is_one_enough, parts_settle};
 use rc_ast::Test;
 use rc_code::Guard;
 use rc_rules::{Item, Items, Spots};
@@ -229,7 +230,13 @@ fn offer_met(asks: &[SoughtCard], any: bool, ids: &[u16], item: &Item, menu: &mu
 
 // Offers those that have this value.
 #[inline(never)]
-fn offer_having(row: &[Option<u16>], value: u16, ids: &[u16], item: &Item, menu: &mut Items)
+pub(crate) fn offer_having(
+    row: &[Option<u16>],
+    value: u16,
+    ids: &[u16],
+    item: &Item,
+    menu: &mut Items,
+)
     requires few { length ids.now ≤ most_in_list }
     requires room { length item.now.spots.items < 4 }
     requires free { length menu.old.items < most_items }
@@ -290,21 +297,18 @@ pub(crate) fn offer_guarded<'t>(
     }
 }
 
-// Offers those of the cards with these ids for which a guard in parts holds, where values are all that it asks.
+// Offers all of so many cards, or none.
 #[inline(always)]
-fn offer_sought(parts: Parts, asks: &[SoughtCard], ids: &[u16], item: &Item, menu: &mut Items)
-    requires few { length ids.now ≤ most_in_list }
+fn offer_all_if(all: bool, count: usize, item: &Item, menu: &mut Items)
+    requires few { count ≤ most_in_list }
     requires room { length item.now.spots.items < 4 }
     requires free { length menu.old.items < most_items }
     ensures { menu_seen menu.new.items ≡ take most_items (menu_seen menu.old.items
         ++ map (extended (item_seen item.now)) (from_each
-        (λ id. if (if parts.settled then parts.any else joined parts.any (map (met_value id) asks.now))
-        then [] ∷ [] else []) 0 ids.now)) }
+        (λ n. if all then [] ∷ [] else []) 0 (below count))) }
 {
-    if !parts.settled {
-        offer_met(asks, parts.any, ids, item, menu);
-    } else if parts.any {
-        offer_count(ids.len(), item, menu);
+    if all {
+        offer_count(count, item, menu);
     }
 }
 
@@ -328,13 +332,24 @@ pub(crate) fn offer_in_parts(
         (coll_value (scene_seen scene.now) scope.now (cards_in (loc_seen guard.now.loc))))) }
     ensures left { result ≡ false → menu.new.items ≡ menu.old.items }
 {
+    let split = split_of(guard);
+    let any = is_one_enough(guard.joint);
     let mut asks = Asks::new();
-    match known_parts(scene, scope, guard, &mut asks) {
-        Some(parts) => {
-            let ids = ids_of(scene, scope, &guard.loc);
-            offer_sought(parts, asks.as_slice(), ids, item, menu);
+    let Some(settled) = parts_settle(scene, scope, split.parts, any, &mut asks) else {
+        return false;
+    };
+    let ids = ids_of(scene, scope, &guard.loc);
+    if settled {
+        offer_all_if(any, ids.len(), item, menu);
+        return true;
+    }
+    match split.then {
+        Some(card_test) => {
+            asks.is_empty() && offer_passing(scene, scope, card_test, ids, item, menu)
+        }
+        None => {
+            offer_met(asks.as_slice(), any, ids, item, menu);
             true
         }
-        None => false,
     }
 }

@@ -6,21 +6,21 @@ ghost use Rattle.rc_sheet_spec.specs.Sheet.{Test as PureTest, cards_in, has_valu
 ghost use Rattle.rc_play_spec.specs.Scene.{CardValue};
 ghost use Rattle.rc_play_spec.specs.Value.{test_value};
 ghost use Rattle.rc_ast.specs.Names.{loc_seen};
-ghost use Rattle.rc_code.specs.Guards.{in_sense, guard_meant, part_meant, guard_test_meant, card_test_meant, IsFixedGuard, IsFixedPart, IsFixedGuardTest, IsFixedCardTest};
-ghost use Rattle.rc_menu.specs.Asks.{ask_value, asks_value, joined, one_suffices, parts_told, IsInParts, IsJoined};
+ghost use Rattle.rc_code.specs.Guards.{in_sense, part_meant, guard_test_meant, card_test_meant, IsFixedPart, IsFixedGuardTest, IsFixedCardTest};
+ghost use Rattle.rc_menu.specs.Asks.{ask_value, asks_value, joined, one_suffices, parts_told, IsJoined};
 ghost use Rattle.rc_menu.specs.Known.{IsAtHand, IsTurned};
 ghost use Rattle.rc_value.specs.Scene.{scene_seen};
 ghost use Rattle.rc_value.specs.Wanted.{IsWantedAt};
 
-use crate::asks::{Asks, Parts, ask_in};
+use crate::asks::{Asks, ask_in};
 use crate::known::{AtHand, are_there, turned_if, turned_wanted};
 use rc_ast::Loc;
-use rc_code::{CardTest, Guard, GuardPart, GuardTest, Joint, Sense};
+use rc_code::{CardTest, GuardPart, GuardTest, Joint, Sense};
 use rc_value::{Bindings, Scene, SoughtValue, attr_of_id, comparison_holds, top_id};
 
 // The value that a card is to have.
 #[inline(always)]
-fn wanted_by(scene: &Scene, scope: &Bindings, card_test: &CardTest) -> SoughtValue
+pub(crate) fn wanted_by(scene: &Scene, scope: &Bindings, card_test: &CardTest) -> SoughtValue
     requires { IsFixedCardTest card_test.now }
     ensures { (place : ℕ) → IsWantedAt (scene_seen scene.now) place (card_test_meant place card_test.now) result }
 {
@@ -133,7 +133,7 @@ fn part_settles<'t>(
 
 // The same with all parts.
 #[inline(always)]
-fn parts_settle<'t>(
+pub(crate) fn parts_settle<'t>(
     scene: &'t Scene,
     scope: &Bindings,
     parts: &[GuardPart],
@@ -164,36 +164,11 @@ fn parts_settle<'t>(
 
 // Whether one part is enough.
 #[inline(always)]
-fn is_one_enough(joint: Joint) -> bool
+pub(crate) fn is_one_enough(joint: Joint) -> bool
     ensures { result ≡ one_suffices joint }
 {
     match joint {
         Joint::Any => true,
         _ => false,
-    }
-}
-
-/// A guard whose parts are known, in parts as `parts_of` has them: values are all that is asked. None where there is no
-/// row of them.
-#[inline(always)]
-pub(crate) fn known_parts<'t>(
-    scene: &'t Scene,
-    scope: &Bindings,
-    guard: &Guard,
-    asks: &mut Asks<'t>,
-) -> Option<Parts>
-    requires outside { scope.now ≡ [] }
-    requires fixed { IsFixedGuard guard.now }
-    requires empty { asks.old.items ≡ [] }
-    ensures parts { IfSome result (λ parts. IsInParts (scene_seen scene.now) scope.now
-        (guard_meant guard.now) parts asks.new.items) }
-    ensures sought { list_all asks_value asks.new.items ≡ true }
-{
-    // what a list keeps
-    let _few = guard.parts.len();
-    let any = is_one_enough(guard.joint);
-    match parts_settle(scene, scope, guard.parts.as_slice(), any, asks) {
-        Some(settled) => Some(Parts { settled, any }),
-        None => None,
     }
 }
