@@ -320,7 +320,7 @@ class Explanations(unittest.TestCase):
 
     def test_each_kind_of_the_program_has_a_sentence(self) -> None:
         for file, name, sentences in (
-            ("rc_commands/src/status.rt", "SourceKind", kinds.SHEET),
+            ("rc_house/src/status.rt", "SourceKind", kinds.SHEET),
             ("rc_play_spec/src/plan_fault.rt", "PlanKind", kinds.PLAN),
             ("rc_judge/src/verdict.rt", "Why", kinds.ILLEGAL),
         ):

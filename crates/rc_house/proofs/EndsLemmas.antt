@@ -1,14 +1,14 @@
 -- How words ended, from what their command did.
 use Rattle.std.proofs.Common.{◌≡◌, ◌<◌, ◌≤◌, ◌⊎◌, ℕ, Bool, true, false, List, inl, inr, refl, sym, subst, ◌∙◌, arith}
 use Rattle.std.proofs.lemmas.Bool.{cases_lt}
-use Rattle.rc_commands.specs.Command.{IsCommand, options_of, workers_of}
-use Rattle.rc_commands.specs.declared.command.Command.{Command}
-use Rattle.rc_commands.proofs.Within.{command_within}
-use Rattle.rc_commands.specs.declared.status.Status.{Status}
-use Rattle.rc_commands.specs.declared.status.Status.TheVariants.{Usage}
-use Rattle.rc_commands.specs.Status.{line_of}
+use Rattle.rc_house.specs.Command.{IsCommand, options_of, workers_of}
+use Rattle.rc_house.specs.declared.command.Command.{Command}
+use Rattle.rc_house.proofs.Within.{command_within}
+use Rattle.rc_house.specs.declared.status.Status.{Status}
+use Rattle.rc_house.specs.declared.status.Status.TheVariants.{Usage}
+use Rattle.rc_house.specs.Status.{line_of}
 use Rattle.rc_house.specs.Port.{Port, Ports, ports, Took, NoCountFell}
-use Rattle.rc_commands.specs.Players.{AreWithin, CanPlay}
+use Rattle.rc_house.specs.Players.{AreWithin, CanPlay}
 use Rattle.rc_house.specs.Running.{NamesNone, no_command, too_many, unread}
 use Rattle.rc_house.specs.Ends.{Runs, Rests, RefusesMany, ended_by, Ending, Ends, alone, shared, usage, no_memory}
 

@@ -4,34 +4,34 @@ use Rattle.std.proofs.lemmas.Bool.{cases_lt}
 use Rattle.std.proofs.lemmas.List.{append-nil}
 use Rattle.rc_sheet_spec.specs.Sheet.{Sheet}
 use Rattle.rc_play_spec.specs.Plan.{Plan}
-use Rattle.rc_commands.specs.Words.{is_named}
+use Rattle.rc_house.specs.Words.{is_named}
 use Rattle.rc_rules.specs.Plan.{plan_seen}
 use Rattle.rc_outside.specs.Source.{Gave, IsAtEnd, longest_read}
 use Rattle.rc_outside.specs.declared.errors.ReadFail.{ReadFail}
 use Rattle.rc_outside.specs.declared.errors.ReadFail.TheVariants as fails
-use Rattle.rc_commands.specs.declared.task.Task.{Task}
-use Rattle.rc_commands.specs.declared.task.Task.TheVariants as named
-use Rattle.rc_commands.specs.declared.task.Task.TheVariants.{Play}
-use Rattle.rc_commands.specs.declared.refusal.Refusal.{Refusal}
-use Rattle.rc_commands.specs.declared.refusal.Refusal.TheVariants as refusals
-use Rattle.rc_commands.specs.declared.status.Status.{Status}
-use Rattle.rc_commands.specs.declared.status.Status.TheVariants.{Done, Memory, TooLong}
-use Rattle.rc_commands.specs.declared.answer.Answer.{Answer as Stored}
-use Rattle.rc_commands.specs.declared.answer.Answer.TheVariants.{Text, Refused}
-use Rattle.rc_commands.specs.declared.answer.Prepared.{Prepared}
-use Rattle.rc_commands.specs.declared.answer.Prepared.TheVariants.{Answered, Playing}
-use Rattle.rc_commands.specs.Task.{IsNoteOf, limit_of}
-use Rattle.rc_commands.specs.Note.{note_line}
-use Rattle.rc_commands.specs.Answer.{Answer, text, refused, seen, AreAlike, HasAnswer, IsGameOf, IsPrepared}
-use Rattle.rc_commands.specs.Status.{refusal_status, read_status}
+use Rattle.rc_house.specs.declared.task.Task.{Task}
+use Rattle.rc_house.specs.declared.task.Task.TheVariants as named
+use Rattle.rc_house.specs.declared.task.Task.TheVariants.{Play}
+use Rattle.rc_house.specs.declared.refusal.Refusal.{Refusal}
+use Rattle.rc_house.specs.declared.refusal.Refusal.TheVariants as refusals
+use Rattle.rc_house.specs.declared.status.Status.{Status}
+use Rattle.rc_house.specs.declared.status.Status.TheVariants.{Done, Memory, TooLong}
+use Rattle.rc_house.specs.declared.answer.Answer.{Answer as Stored}
+use Rattle.rc_house.specs.declared.answer.Answer.TheVariants.{Text, Refused}
+use Rattle.rc_house.specs.declared.answer.Prepared.{Prepared}
+use Rattle.rc_house.specs.declared.answer.Prepared.TheVariants.{Answered, Playing}
+use Rattle.rc_house.specs.Task.{IsNoteOf, limit_of}
+use Rattle.rc_house.specs.Note.{note_line}
+use Rattle.rc_house.specs.Answer.{Answer, text, refused, seen, AreAlike, HasAnswer, IsGameOf, IsPrepared}
+use Rattle.rc_house.specs.Status.{refusal_status, read_status}
 use Rattle.rc_house.specs.Port.{Port, Ports, port, HasFailed, IsSteady, Supplied, Received, Delivers}
 use Rattle.rc_house.specs.Outcome.{GaveTooMuch, Answers, IsTextWith, CountedFew, Refuses, Outcome, written, refusing, no_memory, read_failed, too_long, text_failed, note_failed, NoPortFailed, Succeeds, status_of}
 use Rattle.rc_house.specs.Ends.{WritesPlays, Performs}
-use Rattle.rc_commands.specs.Plays.{TellsPlaysOf}
+use Rattle.rc_house.specs.Plays.{TellsPlaysOf}
 use Rattle.rc_house.specs.Running.{HasNoteOf, ReadsGame, ReadsNone, ReadsPrepared, AnswersSource, Concludes}
-use Rattle.rc_commands.proofs.Notes.{note_of_text}
-use Rattle.rc_commands.proofs.OneAnswer.{alike_answers}
-use Rattle.rc_commands.proofs.PlaysLaw.{written_played}
+use Rattle.rc_house.proofs.Notes.{note_of_text}
+use Rattle.rc_house.proofs.OneAnswer.{alike_answers}
+use Rattle.rc_house.proofs.PlaysLaw.{written_played}
 
 -- what a source gave to its end is all that it told
 gave_all : (whole rest bytes : List ℕ) (after : Option (List ℕ)) → after ≡ Some rest → whole ≡ bytes ++ rest → IsAtEnd after → (bytes ≡ whole) × (after ≡ Some [])

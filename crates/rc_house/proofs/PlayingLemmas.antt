@@ -21,37 +21,37 @@ use Rattle.rc_play_spec.specs.PlayedLaws.{house_text_in, played_text}
 use Rattle.rc_play_spec.specs.Reading.{lines_in}
 use Rattle.rc_play_spec.proofs.SameTexts.{text_same}
 use Rattle.rc_trick.specs.Trick.{IsTrickGame}
-use Rattle.rc_commands.specs.declared.options.Format.{Format}
-use Rattle.rc_commands.specs.declared.options.Format.TheVariants.{Plain, Named}
-use Rattle.rc_commands.specs.declared.options.Options.{Options}
-use Rattle.rc_commands.specs.Words.{is_named}
-use Rattle.rc_commands.specs.Command.{options_of}
-use Rattle.rc_commands.specs.declared.command.Command.{Command}
-use Rattle.rc_commands.specs.declared.command.Command.TheVariants as command
-use Rattle.rc_commands.specs.declared.answer.Answer.{Answer as Stored}
-use Rattle.rc_commands.specs.declared.answer.Answer.TheVariants.{Text, Refused}
-use Rattle.rc_commands.specs.declared.answer.Game.{Game}
-use Rattle.rc_commands.specs.declared.answer.Prepared.TheVariants.{Answered, Playing}
-use Rattle.rc_commands.specs.declared.note.Note.{Note}
-use Rattle.rc_commands.specs.declared.note.Note.TheVariants.{Looks}
-use Rattle.rc_commands.specs.declared.status.Status.{Status}
-use Rattle.rc_commands.specs.declared.status.Status.TheVariants.{Memory}
-use Rattle.rc_commands.specs.declared.task.Task.{Task}
-use Rattle.rc_commands.specs.declared.task.Task.TheVariants.{Play, Check, Sheet as PrintsSheet, Migrate, Watch, Measure, Rival}
-use Rattle.rc_commands.specs.Answer.{Answer, text, house_played, playouts_of, seen, IsGame}
-use Rattle.rc_commands.specs.Bench.{IsBenchAnswer}
-use Rattle.rc_commands.specs.Legend.{HasLegend}
-use Rattle.rc_house.specs.Bench.{BenchOutcome, summary, no_memory as bench_no_memory}
+use Rattle.rc_house.specs.declared.options.Format.{Format}
+use Rattle.rc_house.specs.declared.options.Format.TheVariants.{Plain, Named}
+use Rattle.rc_house.specs.declared.options.Options.{Options}
+use Rattle.rc_house.specs.Words.{is_named}
+use Rattle.rc_house.specs.Command.{options_of}
+use Rattle.rc_house.specs.declared.command.Command.{Command}
+use Rattle.rc_house.specs.declared.command.Command.TheVariants as command
+use Rattle.rc_house.specs.declared.answer.Answer.{Answer as Stored}
+use Rattle.rc_house.specs.declared.answer.Answer.TheVariants.{Text, Refused}
+use Rattle.rc_house.specs.declared.answer.Game.{Game}
+use Rattle.rc_house.specs.declared.answer.Prepared.TheVariants.{Answered, Playing}
+use Rattle.rc_house.specs.declared.note.Note.{Note}
+use Rattle.rc_house.specs.declared.note.Note.TheVariants.{Looks}
+use Rattle.rc_house.specs.declared.status.Status.{Status}
+use Rattle.rc_house.specs.declared.status.Status.TheVariants.{Memory}
+use Rattle.rc_house.specs.declared.task.Task.{Task}
+use Rattle.rc_house.specs.declared.task.Task.TheVariants.{Play, Check, Sheet as PrintsSheet, Migrate, Watch, Measure, Rival}
+use Rattle.rc_house.specs.Answer.{Answer, text, house_played, playouts_of, seen, IsGame}
+use Rattle.rc_house.specs.Bench.{IsBenchAnswer}
+use Rattle.rc_house.specs.Legend.{HasLegend}
+use Rattle.rc_house.specs.BenchOutcome.{BenchOutcome, summary, no_memory as bench_no_memory}
 use Rattle.rc_house.specs.Ends.{Runs}
-use Rattle.rc_commands.specs.Note.{looks_line, note_line}
+use Rattle.rc_house.specs.Note.{looks_line, note_line}
 use Rattle.rc_house.specs.Outcome.{Answers, CountedFew}
-use Rattle.rc_commands.specs.Players.{AreHits, alone, shared, counted_playouts}
+use Rattle.rc_house.specs.Players.{AreHits, alone, shared, counted_playouts}
 use Rattle.rc_house.specs.Port.{Port, Ports, port, IsSteady}
 use Rattle.rc_house.specs.Running.{ReadsAnswer, ReadsGame, IsSeriesOf, TellsOf, series_text, PreparesCommand, PreparesNone, AnswersBench, AnswersSource, AnswersCommand, Concludes}
-use Rattle.rc_commands.proofs.AnswerLaws.{counted_few}
-use Rattle.rc_commands.proofs.BenchLaws.{summary_is, few_steps}
+use Rattle.rc_house.proofs.SourceAnswers.{counted_few}
+use Rattle.rc_house.proofs.BenchLaws.{summary_is, few_steps}
 use Rattle.rc_house.proofs.OutcomeLemmas.{concluded, performed}
-use Rattle.rc_commands.proofs.SomeAnswer.{some_hits}
+use Rattle.rc_house.proofs.SomeAnswer.{some_hits}
 
 -- No more steps than playouts are for the command's answer.
 few_of : (options : Options) (answer : Answer) (told : Option (List ℕ)) (faults : ℕ) (after : Port) (steps steps' : ℕ)

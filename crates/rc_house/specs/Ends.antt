@@ -2,23 +2,23 @@
 -- words, the ports, the steps and the status. For `run`, `many` is Runs and the steps are some number that fits, since
 -- it is handed no counter.
 use Rattle.std.specs.Prelude.{◌≡◌, ◌<◌, ℕ, Bool, true, false, List, IfSome}
-use Rattle.rc_commands.specs.Command.{IsCommand, workers_of}
-use Rattle.rc_commands.specs.declared.command.Command.{Command}
-use Rattle.rc_commands.specs.declared.command.Command.TheVariants.{Play, Check, Sheet, Bench, Migrate, Watch, Measure}
-use Rattle.rc_commands.specs.declared.command.Command.TheVariants.{Rival}
-use Rattle.rc_commands.specs.Words.{is_named}
-use Rattle.rc_commands.specs.declared.status.Status.{Status}
-use Rattle.rc_commands.specs.declared.status.Status.TheVariants as ending
-use Rattle.rc_commands.specs.declared.task.Task.{Task}
-use Rattle.rc_commands.specs.declared.task.Task.TheVariants as task
-use Rattle.rc_commands.specs.Plays.{TellsPlaysOf}
-use Rattle.rc_house.specs.Bench.{BenchOutcome}
+use Rattle.rc_house.specs.Command.{IsCommand, workers_of}
+use Rattle.rc_house.specs.declared.command.Command.{Command}
+use Rattle.rc_house.specs.declared.command.Command.TheVariants.{Play, Check, Sheet, Bench, Migrate, Watch, Measure}
+use Rattle.rc_house.specs.declared.command.Command.TheVariants.{Rival}
+use Rattle.rc_house.specs.Words.{is_named}
+use Rattle.rc_house.specs.declared.status.Status.{Status}
+use Rattle.rc_house.specs.declared.status.Status.TheVariants as ending
+use Rattle.rc_house.specs.declared.task.Task.{Task}
+use Rattle.rc_house.specs.declared.task.Task.TheVariants as task
+use Rattle.rc_house.specs.Plays.{TellsPlaysOf}
+use Rattle.rc_house.specs.BenchOutcome.{BenchOutcome}
 use Rattle.rc_house.specs.Outcome.{Outcome, Succeeds, Refuses}
 use Rattle.rc_house.specs.Port.{Ports, Received, NoCountFell}
 
 -- Where `play` is done and its source tells its bytes, `out` has received a text that tells plays in the format that is
 -- named: each match is one that the accepted sheet allows for its seeded shuffles, up to its end or the turn limit,
--- with choices by views and seeds (Plays.antt of rc_commands).
+-- with choices by views and seeds (Plays.antt).
 abbrev pub WritesPlays : Task → Ports → Ports → Status → Type 0
 WritesPlays (task.Play options) before after status =
     status ≡ ending.Done →
@@ -38,7 +38,7 @@ pub record Performs (task : Task) (before after : Ports) (steps steps' : ℕ) (s
   pub succeeds : Succeeds task before after status
   pub plays : WritesPlays task before after status
 
--- The command was run: Outcome.antt and Bench.antt say what it then did.
+-- The command was run: Outcome.antt and BenchOutcome.antt say what it then did.
 abbrev pub Runs : Command → Ports → Ports → ℕ → ℕ → Status → Type 0
 Runs (Play options) before after steps steps' status = Performs (task.Play options) before after steps steps' status
 Runs Check before after steps steps' status = Performs task.Check before after steps steps' status

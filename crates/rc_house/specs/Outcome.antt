@@ -2,13 +2,13 @@
 -- tell them nothing is said: Answers, Supplied and Received are then true of anything.
 use Rattle.std.specs.Prelude.{◌≡◌, ℕ, ◌+◌, ◌<◌, ◌≤◌, ◌⊎◌, List, [], length, Some, IfSome}
 use Rattle.rc_outside.specs.Source.{longest_read}
-use Rattle.rc_commands.specs.declared.task.Task.{Task}
-use Rattle.rc_commands.specs.declared.refusal.Refusal.{Refusal}
-use Rattle.rc_commands.specs.declared.status.Status.{Status}
-use Rattle.rc_commands.specs.declared.status.Status.TheVariants as ending
-use Rattle.rc_commands.specs.Task.{IsNoteOf, limit_of}
-use Rattle.rc_commands.specs.Answer.{Answer, text, refused, HasAnswer, playouts_of}
-use Rattle.rc_commands.specs.Status.{line_of, refusal_status}
+use Rattle.rc_house.specs.declared.task.Task.{Task}
+use Rattle.rc_house.specs.declared.refusal.Refusal.{Refusal}
+use Rattle.rc_house.specs.declared.status.Status.{Status}
+use Rattle.rc_house.specs.declared.status.Status.TheVariants as ending
+use Rattle.rc_house.specs.Task.{IsNoteOf, limit_of}
+use Rattle.rc_house.specs.Answer.{Answer, text, refused, HasAnswer, playouts_of}
+use Rattle.rc_house.specs.Status.{line_of, refusal_status}
 use Rattle.rc_house.specs.Port.{Port, Ports, HasFailed, IsSteady, Supplied, Received, ReceivedFront, Took, Noted}
 use Rattle.rc_house.specs.Port.{NotedFront}
 

@@ -3,9 +3,9 @@ use Rattle.std.specs.Prelude.{◌≡◌, ℕ, ◌≤◌, ◌⊎◌, List, [], Op
 use Rattle.rc_outside.specs.Faults.{Rose}
 use Rattle.rc_outside.specs.Source.{Gave}
 use Rattle.rc_outside.specs.Sink.{Got, GotFront}
-use Rattle.rc_commands.specs.declared.status.Status.{Status}
-use Rattle.rc_commands.specs.declared.status.Status.TheVariants.{Done, WriteFault}
-use Rattle.rc_commands.specs.Status.{line_of}
+use Rattle.rc_house.specs.declared.status.Status.{Status}
+use Rattle.rc_house.specs.declared.status.Status.TheVariants.{Done, WriteFault}
+use Rattle.rc_house.specs.Status.{line_of}
 
 -- A source or a sink at a moment: the bytes that are left or that were written, where it tells them, and its count of
 -- faults.

@@ -13,31 +13,31 @@ use Rattle.rc_sheet_spec.specs.Sheet.{Sheet}
 use Rattle.rc_text.specs.House.{text_of, named_seen}
 use Rattle.rc_play_spec.specs.HouseText.{naming, text_in}
 use Rattle.rc_trick.specs.Trick.{IsTrickGame}
-use Rattle.rc_commands.specs.Command.{IsCommand, options_of, workers_of}
-use Rattle.rc_commands.specs.declared.command.Command.{Command}
-use Rattle.rc_commands.specs.declared.command.Command.TheVariants as command
-use Rattle.rc_commands.specs.declared.options.Format.{Format}
-use Rattle.rc_commands.specs.declared.options.Format.TheVariants.{Plain, Named}
-use Rattle.rc_commands.specs.declared.options.Options.{Options}
-use Rattle.rc_commands.specs.Words.{is_named}
-use Rattle.rc_commands.specs.declared.task.Task.{Task}
-use Rattle.rc_commands.specs.declared.task.Task.TheVariants.{Play, Check, Sheet as PrintsSheet, Migrate, Watch}
-use Rattle.rc_commands.specs.declared.task.Task.TheVariants.{Measure, Rival}
-use Rattle.rc_commands.specs.declared.answer.Answer.{Answer as Stored}
-use Rattle.rc_commands.specs.declared.answer.Game.{Game}
-use Rattle.rc_commands.specs.declared.answer.Answer.TheVariants as stored
-use Rattle.rc_commands.specs.declared.answer.Prepared.{Prepared}
-use Rattle.rc_commands.specs.declared.answer.Prepared.TheVariants.{Answered, Playing}
-use Rattle.rc_commands.specs.declared.status.Status.{Status}
-use Rattle.rc_commands.specs.declared.status.Status.TheVariants as ending
-use Rattle.rc_commands.specs.Task.{IsNoteOf}
-use Rattle.rc_commands.specs.declared.note.Note.TheVariants.{Looks}
-use Rattle.rc_commands.specs.Note.{note_line}
-use Rattle.rc_commands.specs.Players.{AreHits, CanPlay, counted_playouts}
-use Rattle.rc_commands.specs.Answer.{Answer, seen, playouts_of, IsGame, IsPlayed}
-use Rattle.rc_commands.specs.Bench.{IsBenchAnswer}
+use Rattle.rc_house.specs.Command.{IsCommand, options_of, workers_of}
+use Rattle.rc_house.specs.declared.command.Command.{Command}
+use Rattle.rc_house.specs.declared.command.Command.TheVariants as command
+use Rattle.rc_house.specs.declared.options.Format.{Format}
+use Rattle.rc_house.specs.declared.options.Format.TheVariants.{Plain, Named}
+use Rattle.rc_house.specs.declared.options.Options.{Options}
+use Rattle.rc_house.specs.Words.{is_named}
+use Rattle.rc_house.specs.declared.task.Task.{Task}
+use Rattle.rc_house.specs.declared.task.Task.TheVariants.{Play, Check, Sheet as PrintsSheet, Migrate, Watch}
+use Rattle.rc_house.specs.declared.task.Task.TheVariants.{Measure, Rival}
+use Rattle.rc_house.specs.declared.answer.Answer.{Answer as Stored}
+use Rattle.rc_house.specs.declared.answer.Game.{Game}
+use Rattle.rc_house.specs.declared.answer.Answer.TheVariants as stored
+use Rattle.rc_house.specs.declared.answer.Prepared.{Prepared}
+use Rattle.rc_house.specs.declared.answer.Prepared.TheVariants.{Answered, Playing}
+use Rattle.rc_house.specs.declared.status.Status.{Status}
+use Rattle.rc_house.specs.declared.status.Status.TheVariants as ending
+use Rattle.rc_house.specs.Task.{IsNoteOf}
+use Rattle.rc_house.specs.declared.note.Note.TheVariants.{Looks}
+use Rattle.rc_house.specs.Note.{note_line}
+use Rattle.rc_house.specs.Players.{AreHits, CanPlay, counted_playouts}
+use Rattle.rc_house.specs.Answer.{Answer, seen, playouts_of, IsGame, IsPlayed}
+use Rattle.rc_house.specs.Bench.{IsBenchAnswer}
 use Rattle.rc_house.specs.Port.{Port, HasFailed, IsSteady, Delivers, Took}
-use Rattle.rc_commands.specs.Status.{line_of, refusal_status}
+use Rattle.rc_house.specs.Status.{line_of, refusal_status}
 use Rattle.rc_house.specs.Outcome.{Answers, CountedFew, GaveFew, GaveTooMuch}
 
 -- it is the command of some words

@@ -2,9 +2,10 @@
 ghost use Rattle.std.specs.Prelude.{◌≡◌, ◌≤◌};
 ghost use Rattle.rc_house.specs.Port.{Delivers, Took, between};
 ghost use Rattle.rc_house.specs.Running.{Concludes};
-ghost use Rattle.rc_commands.specs.Status.{line_of};
+ghost use Rattle.rc_house.specs.Status.{line_of};
 
-use rc_commands::{Answer, Status};
+use crate::answer::Answer;
+use crate::status::Status;
 use rc_outside::{Sink, write_all};
 
 /// Notes a refusal, whether that succeeds or not.

@@ -4,31 +4,37 @@ ghost use Rattle.rc_play_spec.specs.MatchLaws.{AlikeSamePicks};
 ghost use Rattle.rc_rules.specs.Plan.{plan_seen};
 ghost use Rattle.rc_text.specs.House.{Fits};
 ghost use Rattle.rc_play_spec.specs.Reading.{lines_in};
-ghost use Rattle.rc_commands.specs.Command.{IsCommand, options_of, workers_of};
-ghost use Rattle.rc_commands.specs.Words.{is_named};
-ghost use Rattle.rc_commands.specs.declared.note.Note.TheVariants.{Looks};
-ghost use Rattle.rc_commands.specs.Answer.{IsGame};
-ghost use Rattle.rc_commands.specs.Task.{CanSearch};
+ghost use Rattle.rc_house.specs.Command.{IsCommand, options_of, workers_of};
+ghost use Rattle.rc_house.specs.Words.{is_named};
+ghost use Rattle.rc_house.specs.declared.note.Note.TheVariants.{Looks};
+ghost use Rattle.rc_house.specs.Answer.{IsGame};
+ghost use Rattle.rc_house.specs.Task.{CanSearch};
 ghost use Rattle.rc_play_spec.specs.RivalLaws.{AlikeSameSearches};
 ghost use Rattle.rc_house.specs.Ends.{Ends, RefusesMany, Runs};
-ghost use Rattle.rc_commands.specs.Laws.{TextsAreTheSame};
-ghost use Rattle.rc_commands.specs.PlayedLaws.{PlayedIsChecked, PlayedIsMeasured, PlayedIsMigrated};
-ghost use Rattle.rc_commands.specs.Plays.{WrittenIsPlayed};
-ghost use Rattle.rc_commands.specs.WatchedLaws.{AbsentExactly, WatchedIsRead};
-ghost use Rattle.rc_commands.specs.Players.{CanPlay};
+ghost use Rattle.rc_house.specs.AnswerLaws.{TextsAreTheSame};
+ghost use Rattle.rc_house.specs.PlayedLaws.{PlayedIsChecked, PlayedIsMeasured, PlayedIsMigrated};
+ghost use Rattle.rc_house.specs.Plays.{WrittenIsPlayed};
+ghost use Rattle.rc_house.specs.WatchedLaws.{AbsentExactly, WatchedIsRead};
+ghost use Rattle.rc_house.specs.Players.{CanPlay};
 ghost use Rattle.rc_house.specs.Port.{between, moment};
 ghost use Rattle.rc_house.specs.Running.{AnswersCommand, ArePlayedBy, HasWords, IsSeriesFor, NamesNone};
 ghost use Rattle.rc_house.specs.Running.{PreparesCommand, PreparesNone, ReadsNone, ReadsPrepared, TellsOf};
 ghost use Rattle.rc_house.specs.Running.{counted_for, series_text, told_of};
 
-use crate::handing::{conclude, refuse};
-use rc_base::Steps;
-use rc_commands::{
-    Answer, Command, Format, Game, Note, Options, Prepared, Status, Task, absent_exactly,
-    bench_game, command_of, legend_for, prepare, texts_are_the_same,
-    what_is_played_is_judged_legal, what_is_played_is_measured, what_is_played_is_migrated,
-    what_is_watched_is_read, what_is_written_is_played,
+use crate::answer::{Answer, Game, Prepared, prepare};
+use crate::answer_laws::{
+    absent_exactly, texts_are_the_same, what_is_played_is_judged_legal, what_is_played_is_measured,
+    what_is_played_is_migrated, what_is_watched_is_read, what_is_written_is_played,
 };
+use crate::benching::bench_game;
+use crate::command::{Command, command_of};
+use crate::handing::{conclude, refuse};
+use crate::naming::legend_for;
+use crate::note::Note;
+use crate::options::{Format, Options};
+use crate::status::Status;
+use crate::task::Task;
+use rc_base::Steps;
 use rc_deck::Memory;
 use rc_outside::{Gate, Sink, Source, read_all};
 use rc_play_spec::{alike_decisions_have_one_item, alike_searches_have_one_item};

@@ -6,7 +6,7 @@
 ghost use Rattle.std.specs.Prelude.{◌≡◌};
 ghost use Rattle.std_io.specs.IoError.{error_kind};
 ghost use Rattle.std_io.specs.declared.io.kind.ErrorKind.TheVariants.{OutOfMemory};
-ghost use Rattle.rc_commands.specs.declared.status.Status.TheVariants.{Memory, Usage};
+ghost use Rattle.rc_house.specs.declared.status.Status.TheVariants.{Memory, Usage};
 
 use rc_house::{Status, refuse, run};
 use rc_outside::{OpenGate, StdSink, StdSource};

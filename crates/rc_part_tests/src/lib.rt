@@ -1,9 +1,9 @@
 //! Tests of calls below the commands: readers and writers of std, decks, forms, draws and claims; machines side by
-//! side, and the ways back of playouts; menus; redrawn tables, what seats see, the bytes of views, and logs of seats;
-//! measures; when a gate is asked; and what matches remember: in a house over events, in the book that workers share,
-//! and in a memo that forgets.
+//! side, and the ways back of playouts; menus; redrawn tables, what seats see, and the bytes of views; measures; when
+//! a gate is asked; and what matches remember: in a house over events, in the book that workers share, and in a memo
+//! that forgets.
 //!
-//! Stands on rc_core, rc_measure, rc_workers, rc_watch, rc_games and rc_trick.
+//! Stands on rc_core, rc_measure, rc_workers, rc_games and rc_trick.
 #![tactic(auto)]
 
 #[cfg(test)]
@@ -26,8 +26,6 @@ mod forgetting;
 mod form;
 #[cfg(test)]
 mod largest;
-#[cfg(test)]
-mod logs;
 #[cfg(test)]
 mod matches;
 #[cfg(test)]

@@ -1,13 +1,13 @@
 use Rattle.std.proofs.Common.{arith, sym, subst}
 use Rattle.rc_play_spec.specs.About.{about_of}
 use Rattle.rc_rules.specs.Plan.{plan_seen}
-use Rattle.rc_commands.specs.Command.{options_of}
-use Rattle.rc_commands.specs.declared.options.Options.{Options}
-use Rattle.rc_commands.specs.declared.answer.Prepared.TheVariants.{Playing}
-use Rattle.rc_commands.specs.Legend.{HasLegend}
+use Rattle.rc_house.specs.Command.{options_of}
+use Rattle.rc_house.specs.declared.options.Options.{Options}
+use Rattle.rc_house.specs.declared.answer.Prepared.TheVariants.{Playing}
+use Rattle.rc_house.specs.Legend.{HasLegend}
 use Rattle.rc_house.specs.Port.{port}
 use Rattle.rc_house.specs.Running.{AnswersCommand, PreparesCommand, PreparesNone}
-use Rattle.rc_commands.proofs.Exits.{at_err}
+use Rattle.rc_house.proofs.Exits.{at_err}
 use Rattle.rc_house.proofs.PlayingLemmas.{game_prepared, lacking, lacking_text, told, unprepared}
 use Rattle.rc_house.proofs.running.answer_alone.Goals as goal
 

@@ -1,8 +1,8 @@
 use Rattle.std.proofs.Common.{◌≡◌, ◌==◌, Bool, true, false, map, string_bytes, refl, sym, ap, subst, ◌∙◌, rules}
-use Rattle.rc_commands.specs.Command.{IsCommand, options_of, workers_of}
-use Rattle.rc_commands.specs.declared.command.Command.{Command}
-use Rattle.rc_commands.specs.declared.options.Options.{Options}
-use Rattle.rc_commands.specs.Players.{CanPlay}
+use Rattle.rc_house.specs.Command.{IsCommand, options_of, workers_of}
+use Rattle.rc_house.specs.declared.command.Command.{Command}
+use Rattle.rc_house.specs.declared.options.Options.{Options}
+use Rattle.rc_house.specs.Players.{CanPlay}
 use Rattle.rc_house.specs.Running.{too_many}
 use Rattle.rc_house.proofs.running.command_for.Goals.{then-several, else-several}
 use Rattle.rc_house.proofs.running.command_for.Goals as goal

@@ -2,8 +2,8 @@ use Rattle.std.proofs.Common.{◌≤◌, ◌+◌, IfOk, subst}
 use Rattle.rc_play_spec.specs.About.{about_of}
 use Rattle.rc_series.specs.Series.{IsTold, looks_of}
 use Rattle.rc_rules.specs.Plan.{plan_seen}
-use Rattle.rc_commands.specs.Command.{options_of}
-use Rattle.rc_commands.specs.Players.{counted_playouts}
+use Rattle.rc_house.specs.Command.{options_of}
+use Rattle.rc_house.specs.Players.{counted_playouts}
 use Rattle.rc_house.proofs.PlayingLemmas.{are_of_one, played_by_one}
 use Rattle.rc_house.proofs.running.play_alone.Goals as goal
 

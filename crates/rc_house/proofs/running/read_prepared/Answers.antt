@@ -1,9 +1,9 @@
 use Rattle.std.proofs.Common.{◌≤◌, length, IfErr, rules, sym, subst, ap, Err, inr}
-use Rattle.rc_commands.specs.Task.{limit_of}
-use Rattle.rc_commands.specs.Answer.{IsPrepared}
+use Rattle.rc_house.specs.Task.{limit_of}
+use Rattle.rc_house.specs.Answer.{IsPrepared}
 use Rattle.rc_house.specs.Port.{port}
 use Rattle.rc_house.specs.Running.{ReadsNone}
-use Rattle.rc_commands.proofs.Exits.{at_err}
+use Rattle.rc_house.proofs.Exits.{at_err}
 use Rattle.rc_house.proofs.OutcomeLemmas.{reads_prepared, unread_is}
 use Rattle.rc_house.proofs.running.read_prepared.Goals as goal
 

@@ -1,5 +1,5 @@
 use Rattle.std.proofs.Common.{◌≡◌, map, string_bytes, true, rules}
-use Rattle.rc_commands.specs.Command.{workers_of}
+use Rattle.rc_house.specs.Command.{workers_of}
 use Rattle.rc_house.specs.Port.{port, ports}
 use Rattle.rc_house.proofs.EndsLemmas.{more_than_one, ran, none_ran}
 use Rattle.rc_house.proofs.PlayingLemmas.{runs_so}

@@ -1,5 +1,0 @@
-use Rattle.rc_commands.proofs.PlayedLaws.{played_migrated}
-use Rattle.rc_commands.proofs.laws.what_is_played_is_migrated.Goals as goal
-
-pub returns : goal.returns
-returns c = played_migrated

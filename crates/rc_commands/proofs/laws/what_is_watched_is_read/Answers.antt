@@ -1,5 +1,0 @@
-use Rattle.rc_commands.proofs.WatchedLaws.{watched_read}
-use Rattle.rc_commands.proofs.laws.what_is_watched_is_read.Goals as goal
-
-pub returns : goal.returns
-returns c = watched_read c.logs_of_matches_are_read.ensures

@@ -1,7 +1,0 @@
-use Rattle.std.proofs.Common.{refl}
-use Rattle.std.specs.Fmt.{digits}
-use Rattle.rc_commands.proofs.table_examples.sources_of_tasks.Goals as goal
-
-pub returns-clause-note : goal.returns-clause-note
-unfolding digits
-returns-clause-note c = refl

@@ -1,0 +1,5 @@
+use Rattle.rc_house.proofs.PlayedLaws.{played_measured}
+use Rattle.rc_house.proofs.answer_laws.what_is_played_is_measured.Goals as goal
+
+pub returns : goal.returns
+returns c = played_measured

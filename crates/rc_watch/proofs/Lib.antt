@@ -1,2 +1,0 @@
-mod SiteLemmas
-mod RecordLemmas
