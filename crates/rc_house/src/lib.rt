@@ -7,7 +7,7 @@
 //! that are printed, judged, or played where no worker is to be asked, and the laws of answers. What runs: it reads the
 //! source, has its matches played, and hands the answer to the ports.
 //!
-//! Stands on rc_search, rc_plan, rc_measure, rc_seatlog, rc_workers, rc_judge and rc_trick.
+//! Stands on rc_search, rc_plan, rc_measure, rc_seatlog, rc_series, rc_judge and rc_trick.
 #![tactic(auto)]
 
 // what a command is
@@ -54,7 +54,7 @@ pub use command::{Command, command_of};
 pub use handing::refuse;
 pub use rc_judge::Why;
 pub use rc_plan::{PlanFail, PlanFault, PlanKind, plan_of};
-pub use rc_workers::play_shared;
+pub use rc_series::play_shared;
 pub use refusal::Refusal;
 pub use rival_matches::rivals_of;
 pub use running::{run, run_alone};

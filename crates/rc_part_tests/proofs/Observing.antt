@@ -6,7 +6,7 @@ use Rattle.std.proofs.Crossing
 use Rattle.rc_rollout.proofs.blank.Blank.TheSendSync as Blanks
 use Rattle.rc_rollout.specs.contracts.blank.Blank
 use Rattle.rc_rollout.specs.contracts.choices.Choices
-use Rattle.rc_workers.proofs.Threaded.{code_sync, code_send, ground_send}
+use Rattle.rc_series.proofs.Threaded.{code_sync, code_send, ground_send}
 use Rattle.rc_games.specs.contracts.observed.Observed
 
 -- the code, what is kept from decision to decision, and what remembers nothing

@@ -8,8 +8,8 @@ use rc_cache::{Book, BookNaming, Call, Fresh, Lane, SharedBook, close, same_ask}
 use rc_outside::OpenGate;
 use rc_redraw::Ask;
 use rc_rules::{About, Control, Frame, Plan};
+use rc_series::play_shared;
 use rc_view::{Sight, View};
-use rc_workers::play_shared;
 use std::alloc::{AllocError, Global};
 use std::marker::Brand;
 use std::process::Abort;

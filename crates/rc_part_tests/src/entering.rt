@@ -9,7 +9,7 @@ use rc_code::Code;
 use rc_games::{GAME, Game, Observed, Observer, game_in};
 use rc_outside::Gate;
 use rc_redraw::{About, Need};
-use rc_workers::play_claimed;
+use rc_series::play_claimed;
 use std::alloc::Global;
 use std::process::Abort;
 use std::sync::Arc;

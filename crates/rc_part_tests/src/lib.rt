@@ -3,7 +3,7 @@
 //! a gate is asked; and what matches remember: in a house over events, in the book that workers share, and in a memo
 //! that forgets.
 //!
-//! Stands on rc_core, rc_measure, rc_workers, rc_games and rc_trick.
+//! Stands on rc_core, rc_measure, rc_series, rc_games and rc_trick.
 #![tactic(auto)]
 
 #[cfg(test)]
