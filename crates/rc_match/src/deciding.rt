@@ -2,7 +2,7 @@
 ghost use Rattle.std.specs.Prelude.{◌≡◌, ◌<◌, ◌++◌, false, length, Some, IfSome, IfOk, OnOk, OnErr};
 ghost use Rattle.rc_play_spec.specs.About.{About as PureAbout};
 ghost use Rattle.rc_play_spec.specs.Owners.{mover};
-ghost use Rattle.rc_redraw.specs.Choosing.{AsksAll, AsksSome, asked_for};
+ghost use Rattle.rc_redraw.specs.Choosing.{AsksAll, AsksSome, Chooses, ChoiceLacks};
 ghost use Rattle.rc_redraw.specs.Need.{IsNeed};
 ghost use Rattle.rc_rules.specs.Bounds.{match_bounds};
 ghost use Rattle.rc_rules.specs.Control.{stop_seen};
@@ -118,9 +118,9 @@ fn item_of<M: Machine, C: Chooser, L: Ledger>(
     requires need { IsNeed (of_job job.now need_at seat (M.config machine.now)) }
     ensures chosen { IfOk result
         (λ item. Chosen (asks (of_job job.now need_at seat (M.config machine.now))) (Some item)) }
-    ensures asked { OnOk result (AsksAll (asked_for (of_job job.now need_at seat (M.config machine.now)))
+    ensures asked { OnOk result (Chooses (of_job job.now need_at seat (M.config machine.now))
         (C.counts chooser.old) (C.counts chooser.new) steps.old steps.new) }
-    ensures lacking { OnErr result (AsksSome (asked_for (of_job job.now need_at seat (M.config machine.now)))
+    ensures lacking { OnErr result (ChoiceLacks (of_job job.now need_at seat (M.config machine.now))
         (C.counts chooser.old) (C.counts chooser.new) steps.old steps.new) }
     ensures same { (about : PureAbout) → C.serves chooser.old about → C.serves chooser.new about }
     ensures named { C.name chooser.new ≡ C.name chooser.old }

@@ -41,6 +41,15 @@ pub data Lacks (key : Key) (before after : Counts) (steps steps' : ℕ) : Type 0
   unkept : after ≡ looked_up key false before → steps ≤ steps' → steps' ≤ steps + cost_of key →
       Lacks key before after steps steps'
 
+-- Memory runs out at the first of these keys. Where there are none, nothing was done.
+abbrev pub LacksFirst : List Key → Counts → Counts → ℕ → ℕ → Type 0
+LacksFirst [] before after steps steps' = (after ≡ before) × (steps' ≡ steps)
+LacksFirst (key ∷ keys) before after steps steps' = Lacks key before after steps steps'
+
+-- memory runs out at a choice
+abbrev pub ChoiceLacks : Need → Counts → Counts → ℕ → ℕ → Type 0
+ChoiceLacks need before after steps steps' = LacksFirst (asked_for need) before after steps steps'
+
 -- The first of these keys are looked up one after the other, all of them or until memory runs out at one.
 abbrev pub AsksSome : List Key → Counts → Counts → ℕ → ℕ → Type 0
 AsksSome [] before after steps steps' = (after ≡ before) × (steps' ≡ steps)

@@ -4,7 +4,7 @@ ghost use Rattle.rc_play_spec.specs.About.{About as PureAbout};
 ghost use Rattle.rc_play_spec.specs.Keyed.{choice_of};
 ghost use Rattle.rc_redraw.specs.Counts.{Counts};
 ghost use Rattle.rc_redraw.specs.Need.{need_seen, IsNeed};
-ghost use Rattle.rc_redraw.specs.Choosing.{Chooses, AsksSome, asked_for, most_steps};
+ghost use Rattle.rc_redraw.specs.Choosing.{Chooses, ChoiceLacks, most_steps};
 
 use crate::need::Need;
 use rc_base::Steps;
@@ -37,7 +37,7 @@ pub trait Chooser {
         ensures counted { OnOk result
             (Chooses (need_seen need) (counts self.old) (counts self.new) steps.old steps.new) }
         ensures lacking { OnErr result
-            (AsksSome (asked_for (need_seen need)) (counts self.old) (counts self.new) steps.old steps.new) }
+            (ChoiceLacks (need_seen need) (counts self.old) (counts self.new) steps.old steps.new) }
         ensures rises { steps.old ≤ steps.new }
         ensures bounded { steps.new ≤ steps.old + most_steps (need_seen need) }
         ensures same { (about : PureAbout) → serves self.old about → serves self.new about }

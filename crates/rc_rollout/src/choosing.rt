@@ -7,7 +7,7 @@ ghost use Rattle.rc_play_spec.specs.Tally.{tally as tally_of};
 ghost use Rattle.rc_code.specs.Seen.{code_seen};
 ghost use Rattle.rc_code.specs.Stands.{StandsFor};
 ghost use Rattle.rc_redraw.specs.Asking.{cost_of, key_seen};
-ghost use Rattle.rc_redraw.specs.Choosing.{Asks, AsksSome, Chooses, Lacks, asked_for, most_steps};
+ghost use Rattle.rc_redraw.specs.Choosing.{Asks, Chooses, ChoiceLacks, Lacks, asked_for, most_steps};
 ghost use Rattle.rc_redraw.specs.Counts.{Serves, kept_once};
 ghost use Rattle.rc_redraw.specs.Need.{need_seen, IsAtDecision, IsNeed};
 ghost use Rattle.rc_rollout.specs.Alone.{IsOffhand, keys_of};
@@ -26,7 +26,7 @@ use std::sync::ledger::Ledger;
 
 /// The item that the strategy of a need chooses. For a rollout it asks the memo once. Where the memo has no totals they
 /// are played out on the code, which stands for the sheet, a step for each playout, and given to the memo to keep.
-/// Memory may run out.
+/// Memory may run out, and then nothing was kept.
 pub fn choose<M: Memo, L: Ledger>(
     alloc: Global,
     need: &Need,
@@ -42,7 +42,7 @@ pub fn choose<M: Memo, L: Ledger>(
         (need_seen need.now).view) }
     ensures counted { OnOk result (Chooses (need_seen need.now) (M.counts memo.old)
         (M.counts memo.new) steps.old steps.new) }
-    ensures lacking { OnErr result (AsksSome (asked_for (need_seen need.now)) (M.counts memo.old)
+    ensures lacking { OnErr result (ChoiceLacks (need_seen need.now) (M.counts memo.old)
         (M.counts memo.new) steps.old steps.new) }
     ensures rises { steps.old ≤ steps.new }
     ensures bounded { steps.new ≤ steps.old + most_steps (need_seen need.now) }
@@ -73,7 +73,7 @@ pub(crate) fn choose_on<M: Memo, L: Ledger>(
         (need_seen need).view) }
     ensures counted { OnOk result (Chooses (need_seen need) (M.counts memo.old)
         (M.counts memo.new) steps.old steps.new) }
-    ensures lacking { OnErr result (AsksSome (asked_for (need_seen need)) (M.counts memo.old)
+    ensures lacking { OnErr result (ChoiceLacks (need_seen need) (M.counts memo.old)
         (M.counts memo.new) steps.old steps.new) }
     ensures rises { steps.old ≤ steps.new }
     ensures bounded { steps.new ≤ steps.old + most_steps (need_seen need) }
