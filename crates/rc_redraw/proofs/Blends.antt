@@ -1,9 +1,9 @@
 -- A pattern in which no place is known becomes the ids, so it need not be kept.
-use Rattle.std.proofs.Common.{Option, Some, None, ◌≡◌, ℕ, ◌+◌, ◌≤◌, ◌<◌, ◌||◌, nat_lt, if◌then◌else◌, Bool, true, false, List, [], ◌∷◌, ◌++◌, length, map, drop, refl, sym, ap, ◌∙◌, inl, inr, true≢false, length-append, arith}
+use Rattle.std.proofs.Common.{Option, Some, None, ◌≡◌, ℕ, ◌+◌, ◌≤◌, ◌<◌, ◌||◌, nat_lt, if◌then◌else◌, Bool, true, false, List, [], ◌∷◌, ◌++◌, length, map, take, drop, refl, sym, ap, ◌∙◌, inl, inr, true≢false, length-append, arith}
 use Rattle.std.specs.List.{list_any}
 use Rattle.std.proofs.lemmas.Bool.{ltb-false}
 use Rattle.rc_play_spec.specs.View.{partly}
-use Rattle.rc_play_spec.specs.Redraw.{known_faces, unknown}
+use Rattle.rc_play_spec.specs.Redraw.{known_faces, unknown, peeked}
 use Rattle.rc_view.specs.Seen.{sight_seen}
 use Rattle.rc_view.specs.declared.sight.Sight.{Sight}
 use Rattle.rc_view.specs.declared.sight.Sight.TheVariants.{Faces, Partly}
@@ -67,6 +67,21 @@ other_if os seen none false = refl
 neither : (n : ℕ) (b c : Bool) → nat_lt 0 n ≡ b → (b || c) ≡ false → (n ≤ 0) × (c ≡ false)
 neither n true c is e = absurd (true≢false e)
 neither n false c is e = (ltb-false 0 n is, e)
+
+-- where no place is known, no card is
+pub none_peeked : (mems : List Bool) (sights : List Sight) (seen : List ℕ) →
+    list_any (λ sight. knows (sight_seen sight)) sights ≡ false → peeked mems (map sight_seen sights) seen ≡ []
+none_peeked mems [] seen e = refl
+none_peeked [] (sight ∷ sights) seen e = refl
+none_peeked (true ∷ mems) (Faces fs ∷ sights) seen e = none_peeked mems sights seen e
+none_peeked (true ∷ mems) (Partly os ∷ sights) seen e =
+    none_peeked mems sights seen (neither (length (known_faces os.items)) _ _ refl e).1
+none_peeked (false ∷ mems) (Faces fs ∷ sights) seen e = none_peeked mems sights (drop (length fs.items) seen) e
+none_peeked (false ∷ mems) (Partly os ∷ sights) seen e =
+    let none = neither (length (known_faces os.items)) _ _ refl e in
+    let none_here : length (known_faces os.items) ≡ 0 = omega (arith, none.0) in
+    let left = drop (length (known_faces os.items)) seen in
+    ap (λ n. take n seen ++ peeked mems (map sight_seen sights) left) none_here ∙ none_peeked mems sights left none.1
 
 pub none_kept : (mems : List Bool) (sights : List Sight) (seen : List ℕ) →
     list_any (λ sight. knows (sight_seen sight)) sights ≡ false →

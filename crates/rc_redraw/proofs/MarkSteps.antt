@@ -11,6 +11,19 @@ use Rattle.rc_play_spec.proofs.MarksSeen.{marks-are, marks-long}
 use Rattle.rc_table.specs.Marks.{seats_in}
 use Rattle.rc_redraw.specs.Marked.{marked_by}
 
+abbrev nothing : List ℕ
+nothing = []
+
+take_none : (n : ℕ) → take n nothing ≡ nothing
+take_none zero = refl
+take_none (suc n) = refl
+
+-- bytes that are cleared, and made so many
+pub all_zero : (n k : ℕ) (old new : List ℕ) → old ≡ [] → k ≡ 0 → new ≡ take n old ++ replicate (n - k) 0 → new ≡ replicate n 0
+all_zero n k old new none short is =
+    let all : n - k ≡ n = omega (arith, short) in
+    is ∙ ap (λ xs. take n xs ++ replicate (n - k) 0) none ∙ ap (λ xs. xs ++ replicate (n - k) 0) (take_none n) ∙ ap (λ j. replicate j 0) all
+
 pub marked-more : (seats : ℕ) (xs ys marks : List ℕ) → marked_by seats (xs ++ ys) marks ≡ marked_by seats ys (marked_by seats xs marks)
 marked-more seats [] ys marks = refl
 marked-more seats (x ∷ xs) ys marks = marked-more seats xs ys (set marks x seats)

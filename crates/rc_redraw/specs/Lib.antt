@@ -1,6 +1,7 @@
 pub mod Asking
 pub mod Choosing
 pub mod Counts
+pub mod Desk
 pub mod Entry
 pub mod Hiding
 pub mod Need

@@ -6,6 +6,7 @@
 
 mod asking;
 mod chooser;
+mod desk;
 mod entry;
 mod filling;
 mod hidden;
@@ -20,6 +21,7 @@ mod tally;
 
 pub use asking::{Ask, Key};
 pub use chooser::Chooser;
+pub use desk::Desk;
 pub use entry::Entry;
 pub use memo::{Memo, Reply};
 pub use need::Need;

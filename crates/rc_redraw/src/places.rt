@@ -1,10 +1,9 @@
 //! Places of a location that a view knows, and the others.
-ghost use Rattle.std.specs.Prelude.{◌≡◌, ◌≤◌, ◌++◌, length, OnOk, IfOk};
+ghost use Rattle.std.specs.Prelude.{◌≡◌, ◌≤◌, ◌++◌, [], length, OnOk};
 ghost use Rattle.rc_play_spec.specs.Redraw.{known_faces, unknown, mixed};
 ghost use Rattle.rc_redraw.specs.Hiding.{pattern_at, blended, blanks};
 
 use rc_deck::Memory;
-use std::alloc::Global;
 
 /// How many places are known.
 pub(crate) fn count_known(numbers: &[Option<u16>]) -> usize
@@ -44,22 +43,23 @@ pub(crate) fn push_known(numbers: &[Option<u16>], faces: &mut Vec<u16>) -> Resul
     Ok(())
 }
 
-/// What the places hold: the known ones the first of `seen`, and the others the first of `hidden`.
+/// Lists what the places hold: the known ones the first of `seen`, and the others the first of `hidden`.
 #[tactic(auto, using(crate::proofs::NoneKnown::all_unknown, crate::proofs::NoneKnown::all_hidden))]
 pub(crate) fn mix(
-    alloc: Global,
     numbers: &[Option<u16>],
     seen: &[u16],
     hidden: &[u16],
-) -> Result<Vec<u16>, Memory>
+    list: &mut Vec<u16>,
+) -> Result<(), Memory>
+    requires empty { list.old.items ≡ [] }
     requires seen { length (known_faces numbers.now) ≤ length seen.now }
     requires hidden { unknown numbers.now ≤ length hidden.now }
-    ensures { IfOk result (λ list. list.items ≡ mixed numbers.now seen.now hidden.now) }
+    ensures { OnOk result (list.new.items ≡ mixed numbers.now seen.now hidden.now) }
 {
     if count_known(numbers) == 0 {
-        return Ok(Vec::from_slice(alloc, &hidden[..numbers.len()])?);
+        list.extend_from_slice(&hidden[..numbers.len()])?;
+        return Ok(());
     }
-    let mut list = Vec::with_capacity(alloc, numbers.len())?;
     let mut known = 0;
     let mut other = 0;
     for at in 0..numbers.len() {
@@ -71,7 +71,7 @@ pub(crate) fn mix(
             other += 1;
         }
     }
-    Ok(list)
+    Ok(())
 }
 
 /// Adds the first of `seen` for the known places, and nothing for the others.

@@ -12,9 +12,7 @@ ghost use Rattle.rc_redraw.specs.Hiding.{blanks, spread};
 ghost use Rattle.rc_redraw.specs.Redraws.{redealt};
 ghost use Rattle.rc_view.specs.Seen.{view_seen};
 
-use crate::filling::{hiding_locations, kept_pattern};
-use crate::layout::{Layout, layout_of};
-use crate::marks::marks_known;
+use crate::desk::Desk;
 use crate::places::blend;
 use rc_deck::Memory;
 use rc_draw::shuffle_by;
@@ -32,18 +30,8 @@ use std::sync::Arc;
 #[derive(Drop)]
 pub struct Redraws<'v> {
     view: &'v View,
-    // that of the last key, or with the hidden cards in ascending order
-    table: Table,
-    // the locations that hide cards
-    hidden: Vec<u16>,
-    // the ids at their places that are known, or nothing where none is
-    pattern: Vec<Option<u16>>,
-    // and room for all that they hold, where some are known
-    content: Vec<u16>,
-    // the other ids in ascending order
-    unused: Vec<u16>,
-    // and in that of the table
-    order: Vec<u16>,
+    // its table is that of the last key, or with the hidden cards in ascending order
+    desk: Desk,
 }
 
 impl<'v> Model for Redraws<'v> {
@@ -55,14 +43,12 @@ impl<'v> Model for Redraws<'v> {
 
     ghost coded = { Prim.hlevel (sheet_codes, codes) };
 
-    ghost use Rattle.rc_redraw.specs.Redraws.{Keeps};
+    ghost use Rattle.rc_redraw.specs.Desk.{laid_on, IsLaidOn};
     ghost use Rattle.rc_view.specs.Seen.{view_seen};
 
-    ghost view = { λ r. record { shape = r.table.shape; view = view_seen r.view.now; table = r.table.table } };
+    ghost view = { λ r. laid_on r.desk (view_seen r.view.now) };
 
-    ghost invariant = { λ r. Keeps
-        (record { shape = r.table.shape; view = view_seen r.view.now; table = r.table.table })
-        r.hidden.items r.pattern.items r.content.items r.unused.items r.order.items };
+    ghost invariant = { λ r. IsLaidOn r.desk (view_seen r.view.now) };
 }
 
 impl<'v> Redraws<'v> {
@@ -74,45 +60,26 @@ impl<'v> Redraws<'v> {
         ensures view { IfOk result (λ redraws. redraws.view ≡ view_seen view.now) }
     {
         let table = Table::new(alloc, shape)?;
-        Redraws::laid_on(alloc, shape, view, table)
+        Redraws::laid_on(alloc, shape, view, Desk::new(alloc, table))
     }
 
-    /// The same, laid on a table of this shape, whatever that holds.
+    /// The same, laid on a desk with a table of this shape, whatever that holds.
     pub fn laid_on(
         alloc: Global,
         shape: &Arc<Shape>,
         view: &'v View,
-        table: Table,
+        desk: Desk,
     ) -> Result<Redraws<'v>, Memory>
         requires sound { IsViewOfSound shape.now.value (view_seen view.now) }
-        requires laid { table.shape ≡ shape.now.value }
+        requires laid { desk.table.shape ≡ shape.now.value }
         ensures shape { IfOk result (λ redraws. redraws.shape ≡ shape.now.value) }
         ensures view { IfOk result (λ redraws. redraws.view ≡ view_seen view.now) }
     {
-        seen_places_take_the_smallest();
-        let Layout {
-            lists,
-            seen,
-            unused,
-        } = layout_of(alloc, shape, &view.sights)?;
-        // what a shape keeps
-        let _players = shape.players();
-        let marks = marks_known(alloc, shape, &view.sights, &seen, view.seat)?;
-        let mut table = table;
-        table.lay(&lists, &view.numbers, &marks);
-        let hidden = hiding_locations(alloc, shape, &view.sights)?;
-        let pattern = kept_pattern(alloc, shape, &view.sights, &seen)?;
-        let content = vec![in alloc; 0; pattern.len()]?;
-        let order = Vec::from_slice(alloc, &unused)?;
-        Ok(Redraws {
-            view,
-            table,
-            hidden,
-            pattern,
-            content,
-            unused,
-            order,
-        })
+        let mut desk = desk;
+        match desk.lay(alloc, shape, view) {
+            Ok(()) => Ok(Redraws { view, desk }),
+            Err(Memory) => Err(Memory),
+        }
     }
 
     /// Deals the table of a key. In location order and from bottom to top, each known place has the smallest id of its
@@ -127,13 +94,13 @@ impl<'v> Redraws<'v> {
         redrawn_tables_are_sound();
         redrawn_tables_keep_the_view();
         seen_places_take_the_smallest();
-        shuffle(&mut self.order, &self.unused, key);
+        shuffle(&mut self.desk.order, &self.desk.layout.unused, key);
         refill(
-            &mut self.table,
-            &self.hidden,
-            &self.pattern,
-            &mut self.content,
-            &self.order,
+            &mut self.desk.table,
+            &self.desk.hidden,
+            &self.desk.pattern,
+            &mut self.desk.content,
+            &self.desk.order,
         );
     }
 
@@ -141,15 +108,15 @@ impl<'v> Redraws<'v> {
     pub fn table(&self) -> &Table
         ensures { result.now ≡ record { shape = self.now.shape; table = self.now.table } }
     {
-        &self.table
+        &self.desk.table
     }
 
-    /// That table alone.
-    pub fn into_table(self) -> Table
-        ensures { result ≡ record { shape = self.entry.shape; table = self.entry.table } }
+    /// The desk, with that table.
+    pub fn into_desk(self) -> Desk
+        ensures { result.table ≡ record { shape = self.entry.shape; table = self.entry.table } }
     {
-        let Redraws { table, .. } = self;
-        table
+        let Redraws { view: _, desk } = self;
+        desk
     }
 }
 
@@ -205,5 +172,5 @@ pub fn redraw(
 {
     let mut redraws = Redraws::new(alloc, shape, view)?;
     redraws.deal(key);
-    Ok(redraws.into_table())
+    Ok(redraws.into_desk().into_table())
 }

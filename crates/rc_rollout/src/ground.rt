@@ -3,15 +3,15 @@ ghost use Rattle.std.specs.Prelude.{◌≡◌, IfSome};
 ghost use Rattle.rc_rollout.specs.Ground.{IsKeptFor};
 
 use rc_flat::HomeMachine;
+use rc_redraw::Desk;
 use rc_rules::About;
-use rc_table::Table;
 use std::marker::Model;
 use std::sync::Arc;
 
-/// A table to redraw, and a machine to play out on, as the last decision left them.
+/// A desk to redraw tables on, and a machine to play out on, as the last decision left them.
 #[derive(Drop)]
 pub(crate) struct Kept {
-    pub(crate) table: Table,
+    pub(crate) desk: Desk,
     pub(crate) machine: HomeMachine,
 }
 

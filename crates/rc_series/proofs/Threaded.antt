@@ -27,7 +27,7 @@ use Rattle.rc_flow.specs.contracts.check.Checked
 use Rattle.rc_rules.proofs.lookup.Lookup.TheSendSync as Lookups
 use Rattle.rc_rules.specs.contracts.about.About
 use Rattle.rc_table.proofs.shape.Shape.TheSendSync as Shapes
-use Rattle.rc_table.proofs.table.Table.TheSendSync as Tables
+use Rattle.rc_redraw.proofs.desk.Desk.TheSendSync as Desks
 use Rattle.rc_flat.proofs.stand.Stand.TheSendSync as Stands
 use Rattle.rc_flat.proofs.state.State.TheSendSync as States
 use Rattle.rc_flat.specs.contracts.homing.HomeMachine
@@ -237,7 +237,7 @@ home_send =
 kept_send : IsSend Kept.the_row
 kept_send =
     recorded_send Kept.the_field.row _ _ Kept.the_type.to_one
-    (struct_send (Declared.shape Kept.the_type) (Tables.the_send, (home_send, tt)))
+    (struct_send (Declared.shape Kept.the_type) (Desks.the_field_send, (home_send, tt)))
 
 pub ground_send : IsSend Ground.the_row
 ground_send =

@@ -1,12 +1,12 @@
-use Rattle.std.proofs.Common.{◌≡◌, ◌+◌, ◌-◌, ◌∷◌, ◌++◌, [], ◌∙◌, sym, ap, ap₂, length, map, drop, ◌≤◌, ◌<◌, rules, arith}
-use Rattle.std.proofs.lemmas.List.{length-take, length-drop, take_rest, map-append, append_assoc}
+use Rattle.std.proofs.Common.{◌≡◌, ◌+◌, ◌-◌, ◌∷◌, ◌++◌, [], ◌∙◌, sym, ap, ap₂, length, map, take, drop, set, ◌≤◌, ◌<◌, rules, arith}
+use Rattle.std.proofs.lemmas.List.{length-take, length-drop, length-map, length-set, map-set, take_more_set, take_rest, append_assoc}
 use Rattle.rc_play_spec.specs.Redraw.{mems_of, faces_at, hidden_at, ids_at, filled}
 use Rattle.rc_view.specs.Seen.{sight_seen}
 use Rattle.rc_redraw.proofs.FillSteps.{filled-more, seen-more, hidden-more}
 use Rattle.rc_redraw.proofs.filling.fill_lists.Goals as goal
 
-pub list_for-requires-clause-seen : goal.list_for-requires-clause-seen
-list_for-requires-clause-seen c =
+pub fill_list-requires-clause-seen : goal.fill_list-requires-clause-seen
+fill_list-requires-clause-seen c =
     let test = c.loop-loc-test.true in
     let last = c.locations-loc-end.ensures in
     let more = seen-more c.args.shape.now.places c.args.sights.now c.loop-loc.loc c.requires.each (omega (arith, test, last)) _ c.index-sights-loc.result
@@ -16,8 +16,8 @@ list_for-requires-clause-seen c =
     let cut = length-take (length c.args.seen.now - c.loop-loc.seen_from) (drop c.loop-loc.seen_from c.args.seen.now) in
     omega (arith, more, sum, whole, cut)
 
-pub list_for-requires-clause-hidden : goal.list_for-requires-clause-hidden
-list_for-requires-clause-hidden c =
+pub fill_list-requires-clause-hidden : goal.fill_list-requires-clause-hidden
+fill_list-requires-clause-hidden c =
     let test = c.loop-loc-test.true in
     let last = c.locations-loc-end.ensures in
     let more = hidden-more c.args.shape.now.places c.args.sights.now c.loop-loc.loc c.requires.each (omega (arith, test, last)) _ c.index-sights-loc.result
@@ -63,7 +63,10 @@ loop-loc-preserved c =
     let m-is = c.holds_references-mem.ensures in
     let s-is = c.index-sights-loc.is in
     let each = c.requires.each in
-    let before = map (λ list. list.items) c.loop-loc.lists.items in
+    let lists = c.loop-loc.lists.items in
+    let old = map (λ list. list.items) lists in
+    let before = take i old in
+    let wrote = c.fill_list.new.list in
     let mems' = drop (i + 1) (mems_of places) in
     let sights' = drop (i + 1) (map sight_seen c.args.sights.now) in
     let n = length (faces_at m (sight_seen s)) in
@@ -76,11 +79,15 @@ loop-loc-preserved c =
     let hidden-rest = hidden-more places c.args.sights.now i each less m s m-is s-is in
     let seen-sum = c.loop-loc.invariant.1 in
     let hidden-sum = c.loop-loc.invariant.2 in
-    let list : c.in_ok-list.list.items ≡ here =
-    c.in_ok-list.ensures ∙ ap₂ (λ x y. ids_at m (sight_seen s) x y) (take_rest c.args.seen.now a) (take_rest c.args.hidden.now b) in (
-      ap₂ ◌++◌
-          (ap (map (λ list. list.items)) c.in_ok-push.ensures.items ∙ map-append (λ list. list.items) c.loop-loc.lists.items (c.in_ok-list.list ∷ [])
-          ∙ ap (λ x. before ++ x ∷ []) list)
+    let count = c.loop-loc.invariant.3 in
+    let long = length-map lists (λ list. list.items) in
+    let list : wrote.items ≡ here =
+    c.in_ok-fill_list.ensures ∙ ap₂ (λ x y. ids_at m (sight_seen s) x y) (take_rest c.args.seen.now a) (take_rest c.args.hidden.now b) in
+    let more : take (i + 1) (map (λ list. list.items) (set lists i wrote)) ≡ before ++ here ∷ [] =
+    ap (take (i + 1)) (map-set (λ list. list.items) lists i wrote)
+    ∙ take_more_set old i wrote.items (omega (arith, less, count, long))
+    ∙ ap (λ x. before ++ x ∷ []) list in (
+      ap₂ ◌++◌ more
           (ap₂ (λ x y. filled mems' sights' (drop (a + x) c.args.seen.now) (drop (b + y) c.args.hidden.now)) seen hidden)
           ∙ append_assoc before (here ∷ []) rest
           ∙ ap (λ x. before ++ x)
@@ -88,4 +95,5 @@ loop-loc-preserved c =
           ∙ c.loop-loc.invariant.0,
       omega (arith, seen, seen-rest, seen-sum),
       omega (arith, hidden, hidden-rest, hidden-sum),
+      length-set lists i wrote ∙ count,
     )

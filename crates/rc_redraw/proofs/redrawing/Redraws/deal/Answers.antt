@@ -14,7 +14,12 @@ use Rattle.rc_redraw.proofs.redrawing.Redraws.deal.Goals as goal
 
 pub refill-requires-clause-exact : goal.refill-requires-clause-exact
 refill-requires-clause-exact c = λ some.
-    let r : Redrawn = record { shape = c.self.inside.table.shape; view = view_seen c.self.inside.view.now; table = c.self.inside.table.table } in
+    let r : Redrawn =
+    record {
+      shape = c.self.inside.desk.table.shape;
+      view = view_seen c.self.inside.view.now;
+      table = c.self.inside.desk.table.table;
+    } in
     let kept = c.self.invariant in
     let key = c.args.key.now in
     let count = c.seen_places_take_the_smallest.ensures.rest r.shape r.view kept.of in
@@ -25,12 +30,17 @@ refill-requires-clause-exact c = λ some.
     let each = ap length kept.rest in
     let same = ap length c.deref-3.ensures.value in
     ap blanks c.deref-3.ensures.value
-    ∙ kept_exact c.self.inside.pattern.items _ (length c.deref-4.result.now) kept.known
+    ∙ kept_exact c.self.inside.desk.pattern.items _ (length c.deref-4.result.now) kept.known
     (omega (arith, blank, count, each, long)) (omega (arith, some, same))
 
 pub refill-requires-clause-enough : goal.refill-requires-clause-enough
 refill-requires-clause-enough c =
-    let r : Redrawn = record { shape = c.self.inside.table.shape; view = view_seen c.self.inside.view.now; table = c.self.inside.table.table } in
+    let r : Redrawn =
+    record {
+      shape = c.self.inside.desk.table.shape;
+      view = view_seen c.self.inside.view.now;
+      table = c.self.inside.desk.table.table;
+    } in
     let kept = c.self.invariant in
     let key = c.args.key.now in
     let count = c.seen_places_take_the_smallest.ensures.rest r.shape r.view kept.of in
@@ -44,7 +54,12 @@ refill-requires-clause-enough c =
 
 pub refill-requires-clause-sound : goal.refill-requires-clause-sound
 refill-requires-clause-sound c =
-    let r : Redrawn = record { shape = c.self.inside.table.shape; view = view_seen c.self.inside.view.now; table = c.self.inside.table.table } in
+    let r : Redrawn =
+    record {
+      shape = c.self.inside.desk.table.shape;
+      view = view_seen c.self.inside.view.now;
+      table = c.self.inside.desk.table.table;
+    } in
     let kept = c.self.invariant in
     let key = c.args.key.now in
     let count = c.seen_places_take_the_smallest.ensures.rest r.shape r.view kept.of in
@@ -58,7 +73,12 @@ refill-requires-clause-sound c =
 
 pub invariant_of-self : goal.invariant_of-self
 invariant_of-self c =
-    let r : Redrawn = record { shape = c.self.inside.table.shape; view = view_seen c.self.inside.view.now; table = c.self.inside.table.table } in
+    let r : Redrawn =
+    record {
+      shape = c.self.inside.desk.table.shape;
+      view = view_seen c.self.inside.view.now;
+      table = c.self.inside.desk.table.table;
+    } in
     let kept = c.self.invariant in
     let key = c.args.key.now in
     let count = c.seen_places_take_the_smallest.ensures.rest r.shape r.view kept.of in
@@ -71,7 +91,7 @@ invariant_of-self c =
     let is = c.refill.ensures.refilled ∙ ap (λ table. record { shape = r.shape; table = table }) new.1 in
     let same = c.refill.ensures.each in
     let old = ap length c.deref_mut.ensures.value in
-    let room = c.self.inside.content in
+    let room = c.self.inside.desk.content in
     let filled = ap length (refilled room.len room.items c.refill.new.content room.ok.0 (same ∙ old)) in
     rw is
     (record {
@@ -87,7 +107,12 @@ invariant_of-self c =
 
 pub returns-clause-redealt : goal.returns-clause-redealt
 returns-clause-redealt c =
-    let r : Redrawn = record { shape = c.self.inside.table.shape; view = view_seen c.self.inside.view.now; table = c.self.inside.table.table } in
+    let r : Redrawn =
+    record {
+      shape = c.self.inside.desk.table.shape;
+      view = view_seen c.self.inside.view.now;
+      table = c.self.inside.desk.table.table;
+    } in
     let kept = c.self.invariant in
     let key = c.args.key.now in
     let count = c.seen_places_take_the_smallest.ensures.rest r.shape r.view kept.of in
@@ -102,7 +127,12 @@ returns-clause-redealt c =
 
 pub returns-clause-sound : goal.returns-clause-sound
 returns-clause-sound c =
-    let r : Redrawn = record { shape = c.self.inside.table.shape; view = view_seen c.self.inside.view.now; table = c.self.inside.table.table } in
+    let r : Redrawn =
+    record {
+      shape = c.self.inside.desk.table.shape;
+      view = view_seen c.self.inside.view.now;
+      table = c.self.inside.desk.table.table;
+    } in
     let kept = c.self.invariant in
     let key = c.args.key.now in
     let count = c.seen_places_take_the_smallest.ensures.rest r.shape r.view kept.of in
@@ -117,7 +147,12 @@ returns-clause-sound c =
 
 pub returns-clause-view : goal.returns-clause-view
 returns-clause-view c =
-    let r : Redrawn = record { shape = c.self.inside.table.shape; view = view_seen c.self.inside.view.now; table = c.self.inside.table.table } in
+    let r : Redrawn =
+    record {
+      shape = c.self.inside.desk.table.shape;
+      view = view_seen c.self.inside.view.now;
+      table = c.self.inside.desk.table.table;
+    } in
     let kept = c.self.invariant in
     let key = c.args.key.now in
     let count = c.seen_places_take_the_smallest.ensures.rest r.shape r.view kept.of in

@@ -2,7 +2,7 @@ use Rattle.std.proofs.Common.{◌+◌, ◌++◌, ◌∙◌, sym, ap, map, drop, 
 use Rattle.rc_play_spec.specs.Redraw.{mems_of, faces_at, seen_faces}
 use Rattle.rc_view.specs.Seen.{sight_seen}
 use Rattle.rc_redraw.proofs.FillSteps.{faces-more}
-use Rattle.rc_redraw.proofs.seen.faces_seen.Goals as goal
+use Rattle.rc_redraw.proofs.seen.list_faces.Goals as goal
 
 pub loop-loc-preserved : goal.loop-loc-preserved
 loop-loc-preserved c =

@@ -7,8 +7,8 @@ use Rattle.rc_redraw.specs.Marked.{marked_by}
 use Rattle.rc_view.specs.Seen.{sight_seen}
 use Rattle.rc_redraw.proofs.FillSteps.{seen-more, peeked-more}
 use Rattle.rc_redraw.proofs.MarkSteps.{marked-more, marked-long, are-marks, one-bit, partly-here, faces-here}
-use Rattle.rc_redraw.proofs.marks.marks_known.Goals as goal
-use Rattle.rc_redraw.proofs.marks.marks_known.Goals.{then-seat-lt8, else-seat-lt8, in-Partly, in_default}
+use Rattle.rc_redraw.proofs.marks.mark_peeked.Goals as goal
+use Rattle.rc_redraw.proofs.marks.mark_peeked.Goals.{then-seat-lt8, else-seat-lt8, in-Partly, in_default}
 
 pub overflow_add-to : goal.overflow_add-to
 overflow_add-to c =

@@ -4,7 +4,7 @@ use Rattle.rc_play_spec.specs.Redraw.{mems_of, faces_at}
 use Rattle.rc_view.specs.Seen.{sight_seen}
 use Rattle.rc_redraw.specs.Hiding.{pattern_of, patterns}
 use Rattle.rc_redraw.proofs.FillSteps.{patterns-more, seen-more}
-use Rattle.rc_redraw.proofs.filling.patterns.Goals as goal
+use Rattle.rc_redraw.proofs.filling.push_patterns.Goals as goal
 
 pub push_places-requires : goal.push_places-requires
 push_places-requires c =

@@ -6,8 +6,8 @@ use Rattle.rc_play_spec.specs.Redraw.{seen_ids}
 use Rattle.rc_play_spec.specs.Smallest.{IsSmallestUnused}
 use Rattle.rc_table.proofs.FaceNumbers.{number_le}
 use Rattle.rc_redraw.proofs.FaceSteps.{on-used, on-other, found-it, marks-more}
-use Rattle.rc_redraw.proofs.seen.taken_for.Goals as goal
-use Rattle.rc_redraw.proofs.seen.taken_for.Goals.{then-index, else-index+then-face_number-face}
+use Rattle.rc_redraw.proofs.seen.take_ids.Goals as goal
+use Rattle.rc_redraw.proofs.seen.take_ids.Goals.{then-index, else-index+then-face_number-face}
 
 pub loop-face-2-init : goal.loop-face-2-init
 loop-face-2-init c =

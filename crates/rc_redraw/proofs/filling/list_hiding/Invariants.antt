@@ -2,7 +2,7 @@ use Rattle.std.proofs.Common.{◌≡◌, ◌++◌, map, drop}
 use Rattle.rc_play_spec.specs.Redraw.{mems_of}
 use Rattle.rc_view.specs.Seen.{sight_seen}
 use Rattle.rc_redraw.specs.Hiding.{hiding_from}
-use Rattle.rc_redraw.proofs.filling.hiding_locations.Given as goal
+use Rattle.rc_redraw.proofs.filling.list_hiding.Given as goal
 
 abbrev pub invariant-loop-loc : goal.invariant-loop-loc
 invariant-loop-loc l =

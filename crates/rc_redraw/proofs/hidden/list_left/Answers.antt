@@ -1,8 +1,8 @@
 use Rattle.std.proofs.Common.{◌<◌, ◌∷◌, ◌++◌, [], ◌∙◌, sym, ap, length, false, arith}
 use Rattle.std.proofs.lemmas.List.{get_or_default, length-append}
 use Rattle.rc_redraw.proofs.OtherSteps.{one_more, none_more}
-use Rattle.rc_redraw.proofs.hidden.left_by.Goals as goal
-use Rattle.rc_redraw.proofs.hidden.left_by.Goals.{then-not-index+in_ok-push, else-not-index}
+use Rattle.rc_redraw.proofs.hidden.list_left.Goals as goal
+use Rattle.rc_redraw.proofs.hidden.list_left.Goals.{then-not-index+in_ok-push, else-not-index}
 
 pub loop-id-preserved : goal.loop-id-preserved
 loop-id-preserved c =

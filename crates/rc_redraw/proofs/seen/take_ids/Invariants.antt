@@ -3,7 +3,7 @@ use Rattle.std.specs.Prelude.{slice_index}
 use Rattle.rc_play_spec.specs.Redraw.{seen_ids}
 use Rattle.rc_play_spec.specs.Smallest.{IsSmallestUnused}
 use Rattle.rc_redraw.specs.Taken.{Marks}
-use Rattle.rc_redraw.proofs.seen.taken_for.Given as goal
+use Rattle.rc_redraw.proofs.seen.take_ids.Given as goal
 
 abbrev pub invariant-loop-face : goal.invariant-loop-face
 invariant-loop-face l =

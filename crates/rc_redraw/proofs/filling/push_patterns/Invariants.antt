@@ -2,7 +2,7 @@ use Rattle.std.proofs.Common.{◌≡◌, ◌+◌, ◌++◌, length, map, drop}
 use Rattle.rc_play_spec.specs.Redraw.{mems_of, seen_faces}
 use Rattle.rc_view.specs.Seen.{sight_seen}
 use Rattle.rc_redraw.specs.Hiding.{patterns}
-use Rattle.rc_redraw.proofs.filling.patterns.Given as goal
+use Rattle.rc_redraw.proofs.filling.push_patterns.Given as goal
 
 abbrev pub invariant-loop-loc : goal.invariant-loop-loc
 invariant-loop-loc l =

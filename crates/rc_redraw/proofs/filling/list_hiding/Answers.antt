@@ -5,8 +5,8 @@ use Rattle.rc_play_spec.specs.Redraw.{mems_of, hidden_at}
 use Rattle.rc_view.specs.Seen.{sight_seen}
 use Rattle.rc_redraw.specs.Hiding.{hiding_from}
 use Rattle.rc_redraw.proofs.FillSteps.{hiding-more}
-use Rattle.rc_redraw.proofs.filling.hiding_locations.Goals as goal
-use Rattle.rc_redraw.proofs.filling.hiding_locations.Goals.{then-hidden_places-gt0+in_ok-push, else-hidden_places-gt0}
+use Rattle.rc_redraw.proofs.filling.list_hiding.Goals as goal
+use Rattle.rc_redraw.proofs.filling.list_hiding.Goals.{then-hidden_places-gt0+in_ok-push, else-hidden_places-gt0}
 
 pub loop-loc-preserved : goal.loop-loc-preserved
 loop-loc-preserved c =

@@ -2,7 +2,7 @@ use Rattle.std.proofs.Common.{◌≡◌, ◌+◌, length, map, drop, replicate}
 use Rattle.rc_play_spec.specs.Redraw.{mems_of, seen_faces, peeked}
 use Rattle.rc_view.specs.Seen.{sight_seen}
 use Rattle.rc_redraw.specs.Marked.{marked_by}
-use Rattle.rc_redraw.proofs.marks.marks_known.Given as goal
+use Rattle.rc_redraw.proofs.marks.mark_peeked.Given as goal
 
 abbrev pub invariant-loop-loc : goal.invariant-loop-loc
 invariant-loop-loc l =
