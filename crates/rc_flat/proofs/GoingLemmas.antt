@@ -90,10 +90,14 @@ module _ (about : About) (code : List Instruction) where
 
 -- a machine stays in its match
 pub stays_still : (a : Machine) → StaysInMatch a a
-stays_still a = record { about = refl; code = refl; home = λ some. some }
+stays_still a = record { about = refl; code = refl; home = refl }
 
 pub stays_then : (a b c : Machine) → StaysInMatch a b → StaysInMatch b c → StaysInMatch a c
-stays_then a b c first then = record { about = then.about ∙ first.about; code = then.code ∙ first.code; home = λ some. then.home (first.home some) }
+stays_then a b c first then = record { about = then.about ∙ first.about; code = then.code ∙ first.code; home = then.home ∙ first.home }
 
 pub stays_kept : (a b : Machine) → KeepsTables a b → StaysInMatch a b
-stays_kept a b keeps = record { about = keeps.about; code = keeps.code; home = λ some. subst IsSome (sym keeps.home) some }
+stays_kept a b keeps = record { about = keeps.about; code = keeps.code; home = keeps.home }
+
+-- and where it had a home, it has one
+pub home_stays : (a b : Machine) → StaysInMatch a b → IsSome a.home → IsSome b.home
+home_stays a b stays some = subst IsSome (sym stays.home) some

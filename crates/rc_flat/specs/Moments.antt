@@ -1,5 +1,5 @@
 -- Moments to which machines go.
-use Rattle.std.specs.Prelude.{◌≡◌, ℕ, List, Some, IsSome}
+use Rattle.std.specs.Prelude.{◌≡◌, ℕ, List, Some}
 use Rattle.rc_play_spec.specs.Table.{Table}
 use Rattle.rc_play_spec.specs.About.{About, menu_at}
 use Rattle.rc_play_spec.specs.Step.{Config}
@@ -31,8 +31,8 @@ pub record IsMoment (about : About) (code : List Instruction) (config : Config) 
 abbrev pub with_table : Table → Config → Config
 with_table table config = record { left = config.left; table = table; control = config.control }
 
--- it plays a match of the same about on the same code, and goes from moment to moment if it did so
+-- it plays a match of the same about on the same code, and its home stays
 pub record StaysInMatch (old new : Machine) : Type 0 where
   pub about : new.about ≡ old.about
   pub code : new.code ≡ old.code
-  pub home : IsSome old.home → IsSome new.home
+  pub home : new.home ≡ old.home

@@ -19,6 +19,7 @@ use Rattle.rc_redraw.specs.Redraws.{Redrawn, redealt}
 use Rattle.rc_flat.specs.Machine.{Machine}
 use Rattle.rc_flat.specs.Moments.{IsMoment, StaysInMatch}
 use Rattle.rc_flat.specs.declared.moments.Moment.{Moment}
+use Rattle.rc_flat.proofs.GoingLemmas.{home_stays}
 use Rattle.rc_rollout.proofs.StandingLemmas.{stands_there}
 use Rattle.rc_search.specs.declared.dealer.Way.{Way}
 use Rattle.rc_search.specs.Rounds.{dealt_on, redrawn_on, root_on, GoesFromRoot, IsDealing, IsAtRoot}
@@ -111,7 +112,7 @@ root_again about way view m m' stands stays config fresh =
       decides = subst (StopsAtDecision about) (sym config) stands.decides;
       size = ap (λ (c : Config). length (menu_here about c)) config ∙ stands.size;
       fresh = fresh;
-      home = stays.home stands.home;
+      home = home_stays m m' stays stands.home;
     }
 
 -- a machine goes on from the root of a round to that of the next one
@@ -120,7 +121,7 @@ pub goes_on : (about : About) (way : Way) (view : View) (m m' : Machine) (root :
 goes_on about way view m m' root stands is stays =
     record {
       same = stays.about ∙ stands.same;
-      home = stays.home stands.home;
+      home = home_stays m m' stays stands.home;
       table = redrawn_on about way view;
       there = subst (λ code. IsMoment about code (root_on about way view) root) (sym stays.code)
           (subst (λ (c : Config). IsMoment about m.code c root) stands.there is);

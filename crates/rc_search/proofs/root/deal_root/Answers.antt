@@ -4,6 +4,7 @@ use Rattle.rc_play_spec.specs.Decision.{at_site}
 use Rattle.rc_table.specs.Laid.{Laid}
 use Rattle.rc_view.specs.Seen.{view_seen}
 use Rattle.rc_flat.specs.Moments.{IsMoment}
+use Rattle.rc_flat.proofs.GoingLemmas.{home_stays}
 use Rattle.rc_search.specs.Rounds.{dealt_on}
 use Rattle.rc_search.proofs.RootLemmas.{can_decide, dealt_for, deals_still, offered_there, stands_so}
 use Rattle.rc_search.proofs.root.deal_root.Goals as goal
@@ -51,7 +52,8 @@ returns-clause-stands c =
     let is = c.deal_to.ensures in
     stands_so about about c.args.way.now view c.table.result.now view.control c.menu_sizes_are_functions_of_views.ensures.redrawn
     c.sheet-sheet.ensures.shape c.sheet-sheet.ensures.sight c.requires.at refl dealt refl c.deal_to.new.self (is.stays.about ∙ goes.same)
-    (is.at root (subst (λ (a : About). IsMoment a c.args.machine.now.code root c.args.root.now) (sym goes.same) goes.there)) is.fresh (is.stays.home goes.home)
+    (is.at root (subst (λ (a : About). IsMoment a c.args.machine.now.code root c.args.root.now) (sym goes.same) goes.there)) is.fresh
+    (home_stays _ _ is.stays goes.home)
 
 pub returns-clause-root : goal.returns-clause-root
 returns-clause-root c =

@@ -5,7 +5,7 @@ use Rattle.rc_play_spec.specs.Strategy.{menu_size}
 use Rattle.rc_play_spec.specs.Search.{total}
 use Rattle.rc_view.specs.Seen.{view_seen}
 use Rattle.rc_flat.specs.Machine.{Machine}
-use Rattle.rc_flat.proofs.GoingLemmas.{stays_then}
+use Rattle.rc_flat.proofs.GoingLemmas.{stays_then, home_stays}
 use Rattle.rc_rollout.proofs.StandingLemmas.{short_menu}
 use Rattle.rc_search.specs.declared.dealer.Way.{Way}
 use Rattle.rc_search.specs.Looking.{tried_with}
@@ -36,7 +36,7 @@ pub stand_at-requires : goal.stand_at-requires
 stand_at-requires g c =
     let is = c.loop-item.invariant in
     record {
-      home = is.stays.home c.requires.stands.home;
+      home = home_stays _ _ is.stays c.requires.stands.home;
       there = (
         c.args.machine.now.config,
         moment_on c.args.machine.now c.loop-item.machine c.args.machine.now.config c.args.root.now is.stays (own_moment c.args.about.now c.args.machine.now c.args.root.now c.requires.stands.same c.requires.root),

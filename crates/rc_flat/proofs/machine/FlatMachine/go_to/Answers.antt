@@ -40,5 +40,5 @@ returns-clause-stays c =
     record {
       about = ap (λ (m : Machine). m.about) c.self.view_is;
       code = ap (λ (m : Machine). m.code) c.self.view_is;
-      home = λ some. subst IsSome (sym (ap (λ (k : Kept). k.home) c.go_to.ensures.board)) (subst (λ (m : Machine). IsSome m.home) (sym c.self.view_is) some);
+      home = ap (λ (k : Kept). k.home) c.go_to.ensures.board ∙ ap (λ (m : Machine). m.home) c.self.view_is;
     }

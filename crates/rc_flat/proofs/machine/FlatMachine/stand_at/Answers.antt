@@ -1,4 +1,4 @@
-use Rattle.std.proofs.Common.{◌≡◌, IsSome, rules, sym, ap, ◌∙◌, subst}
+use Rattle.std.proofs.Common.{◌≡◌, rules, sym, ap, ◌∙◌, subst}
 use Rattle.rc_rules.specs.Control.{control_seen}
 use Rattle.rc_code.specs.Seen.{list_seen}
 use Rattle.rc_undo.specs.Undo.{Kept}
@@ -35,7 +35,6 @@ returns-clause-stays c =
     record {
       about = ap (λ (m : Machine). m.about) c.self.view_is;
       code = ap (λ (m : Machine). m.code) c.self.view_is;
-      home = λ some.
-          subst IsSome (sym (ap (λ (k : Kept). k.home) (c.refill.ensures.board ∙ c.go_to.ensures.board)))
-          (subst (λ (m : Machine). IsSome m.home) (sym c.self.view_is) some);
+      home = ap (λ (k : Kept). k.home) (c.refill.ensures.board ∙ c.go_to.ensures.board)
+          ∙ ap (λ (m : Machine). m.home) c.self.view_is;
     }
