@@ -1,5 +1,5 @@
 -- What one worker asks of a book, and what comes of it.
-use Rattle.std.proofs.Common.{◌≡◌, ℕ, ◌+◌, ◌≤◌, Bool, true, false, not, List, [], ◌∷◌, ◌++◌, take, Some, inl, inr, refl, sym, ap, ◌∙◌, subst, arith, append-nil, append_assoc}
+use Rattle.std.proofs.Common.{◌≡◌, ℕ, ◌+◌, ◌≤◌, ◌⊎◌, Bool, true, false, not, List, [], ◌∷◌, ◌++◌, take, Some, inl, inr, refl, sym, ap, ◌∙◌, subst, arith, append-nil, append_assoc}
 use Rattle.std.specs.Prelude.{IfSome}
 use Rattle.std.proofs.lemmas.Bool.{and_parts, false≢true}
 use Rattle.rc_redraw.specs.Asking.{Key, cost_of}
@@ -113,6 +113,11 @@ miss_bounds key looks n more n' calls more_is bounds capacity keys legal =
     let most = rest.1 in
     rw absent (omega (arith, least, more_is), omega (arith, most, more_is))
 
+-- all of a key's steps, or none
+all_or_none : (n n' cost : ℕ) → (n' ≡ n) ⊎ (n' ≡ n + cost) → (n ≤ n') × (n' ≤ n + cost)
+all_or_none n n' cost (inl none) = (omega (arith, none), omega (arith, none))
+all_or_none n n' cost (inr all) = (omega (arith, all), omega (arith, all))
+
 -- a miss that is the last call
 last_bounds : (key : Key) (looks : List Key) (n n' : ℕ) → n ≤ n' → n' ≤ n + cost_of key → Bounds n n' (key ∷ looks) (looked key false ∷ [])
 last_bounds key looks n n' least most capacity keys legal =
@@ -126,11 +131,12 @@ lacks_tell key looks before after n n' earlier tells (unasked is same) = (
   ap (λ c. c.calls) is ∙ (tells ∙ ap (λ cs. Some cs) (sym (append-nil earlier))),
   λ capacity keys legal. (omega (arith, same), omega (arith, same)),
 )
-lacks_tell key looks before after n n' earlier tells (unkept is least most) = (
-  looked key false ∷ [],
-  ap (λ c. c.calls) is ∙ ap (with_call (looked key false)) tells,
-  last_bounds key looks n n' least most,
-)
+lacks_tell key looks before after n n' earlier tells (unkept is made) =
+    let steps = all_or_none n n' (cost_of key) made in (
+      looked key false ∷ [],
+      ap (λ c. c.calls) is ∙ ap (with_call (looked key false)) tells,
+      last_bounds key looks n n' steps.0 steps.1,
+    )
 
 asks_tell : (key : Key) (looks : List Key) (before between after : Counts) (n more n' : ℕ) (earlier : List Call) → before.calls ≡ Some earlier →
     Asks key before between n more → ((earlier' : List Call) → between.calls ≡ Some earlier' → ToldSome after more n' looks earlier') →

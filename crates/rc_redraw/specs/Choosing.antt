@@ -1,5 +1,5 @@
 -- What choosing asks of a memo, and how many playouts it takes.
-use Rattle.std.specs.Prelude.{◌≡◌, ℕ, ◌+◌, ◌≤◌, ◌⊎◌, true, false, List, [], ◌∷◌}
+use Rattle.std.specs.Prelude.{◌≡◌, ℕ, ◌+◌, ◌⊎◌, true, false, List, [], ◌∷◌}
 use Rattle.rc_play_spec.specs.About.{About}
 use Rattle.rc_play_spec.specs.Plan.{Strategy, scripted, random, rollout}
 use Rattle.rc_play_spec.specs.View.{View}
@@ -34,11 +34,11 @@ asked_for need = asked_by need.about need.strategy need.seed need.view
 abbrev pub Chooses : Need → Counts → Counts → ℕ → ℕ → Type 0
 Chooses need before after steps steps' = AsksAll (asked_for need) before after steps steps'
 
--- Where memory runs out at a key, nothing of it was done, or it was looked up, a miss, and some of its playouts were made. Nothing was
--- kept.
+-- Where memory runs out at a key, nothing of it was done, or it was looked up, a miss, and none of its playouts were made, or all of
+-- them. Nothing was kept.
 pub data Lacks (key : Key) (before after : Counts) (steps steps' : ℕ) : Type 0 where
   unasked : after ≡ before → steps' ≡ steps → Lacks key before after steps steps'
-  unkept : after ≡ looked_up key false before → steps ≤ steps' → steps' ≤ steps + cost_of key →
+  unkept : after ≡ looked_up key false before → (steps' ≡ steps) ⊎ (steps' ≡ steps + cost_of key) →
       Lacks key before after steps steps'
 
 -- Memory runs out at the first of these keys. Where there are none, nothing was done.

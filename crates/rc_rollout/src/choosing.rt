@@ -1,5 +1,5 @@
 //! What strategies choose.
-ghost use Rattle.std.specs.Prelude.{◌≡◌, ◌==◌, ◌≤◌, ◌<◌, ◌+◌, max, fold, length, IfOk, OnOk, OnErr};
+ghost use Rattle.std.specs.Prelude.{◌≡◌, ◌==◌, ◌≤◌, ◌<◌, ◌+◌, ◌⊎◌, max, fold, length, IfOk, OnOk, OnErr};
 ghost use Rattle.std.specs.List.{position_or_len};
 ghost use Rattle.rc_play_spec.specs.Keyed.{choice_of};
 ghost use Rattle.rc_play_spec.specs.Strategy as strategy;
@@ -195,6 +195,8 @@ fn best_played<M: Memo, L: Ledger>(
     ensures kept { OnOk result (M.counts memo.new ≡ kept_once (key_seen key.now) (M.counts memo.old)) }
     ensures lacking { OnErr result (memo.new ≡ memo.old) }
     ensures counted { OnOk result (steps.new ≡ steps.old + cost_of (key_seen key.now)) }
+    ensures uncounted { OnErr result
+        ((steps.new ≡ steps.old) ⊎ (steps.new ≡ steps.old + cost_of (key_seen key.now))) }
     ensures rises { steps.old ≤ steps.new }
     ensures bounded { steps.new ≤ steps.old + cost_of (key_seen key.now) }
     ensures same { M.serves memo.new ≡ M.serves memo.old }
