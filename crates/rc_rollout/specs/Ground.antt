@@ -1,9 +1,8 @@
 -- What is kept from one decision to the next.
-use Rattle.std.specs.Prelude.{◌≡◌}
-use Rattle.rc_play_spec.specs.About.{About}
-use Rattle.rc_rollout.specs.declared.ground.Kept.{Kept}
+use Rattle.std.specs.Prelude.{◌≡◌, IfSome}
+use Rattle.rc_rollout.specs.declared.ground.Ground.TheInside.{Inside}
 
--- it is laid, and plays, for this about
-pub record IsKeptFor (about : About) (kept : Kept) : Type 0 where
-  pub laid : kept.desk.table.shape ≡ about.shape
-  pub plays : kept.machine.about ≡ about
+-- the desk is laid, and the machine plays, for its about
+pub record IsGround (g : Inside) : Type 0 where
+  pub laid : IfSome g.desk (λ desk. desk.table.shape ≡ g.about.value.shape)
+  pub plays : IfSome g.machine (λ machine. machine.about ≡ g.about.value)

@@ -13,7 +13,7 @@ ghost use Rattle.rc_redraw.specs.Need.{need_seen, IsAtDecision, IsNeed};
 ghost use Rattle.rc_rollout.specs.Alone.{IsOffhand, keys_of};
 
 use crate::ground::Ground;
-use crate::totals::tally_on;
+use crate::tallies::tally_on;
 use rc_base::Steps;
 use rc_code::Code;
 use rc_deck::Memory;

@@ -36,7 +36,6 @@ use Rattle.rc_flat.specs.contracts.machine.FlatMachine
 use Rattle.rc_flat.specs.contracts.machine.FlatMachine.TheInside as InMachine
 use Rattle.rc_rollout.specs.contracts.ground.Ground
 use Rattle.rc_rollout.specs.contracts.ground.Ground.TheInside as InGround
-use Rattle.rc_rollout.specs.contracts.ground.Kept
 
 item_sync : IsSync SheetItem.the_row
 item_sync =
@@ -234,11 +233,6 @@ home_send =
     (struct_send (Declared.shape InHome.the_type)
     (machine_send, (Stands.the_field_send, (search (code_sync, code_send, Crossing.crosses, sendable) depth 20, tt)))))
 
-kept_send : IsSend Kept.the_row
-kept_send =
-    recorded_send Kept.the_field.row _ _ Kept.the_type.to_one
-    (struct_send (Declared.shape Kept.the_type) (Desks.the_field_send, (home_send, tt)))
-
 pub ground_send : IsSend Ground.the_row
 ground_send =
     view_send InGround.the_row _ _ _ _
@@ -246,8 +240,7 @@ ground_send =
     (struct_send (Declared.shape InGround.the_type) (
       search (about_sync, about_send, Crossing.crosses, sendable) depth 20,
       (
-        search
-            (kept_send, Crossing.crosses, sendable) depth 20,
-        tt,
+        search (Desks.the_send, Crossing.crosses, sendable) depth 20,
+        (search (home_send, Crossing.crosses, sendable) depth 20, tt),
       ),
     )))
